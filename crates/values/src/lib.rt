@@ -6,6 +6,7 @@ mod expr;
 mod memory;
 mod plan;
 mod sequence;
+mod tried;
 
 pub use code::{Code, Op};
 pub use expr::Expr;
@@ -15,3 +16,4 @@ pub use plan::{
     PlanOwners, Pumped, Stop,
 };
 pub use sequence::{Codes, Numbers, Sequence};
+pub use tried::{Tried, attempt};
