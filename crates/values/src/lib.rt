@@ -4,7 +4,16 @@
 mod code;
 mod expr;
 mod memory;
+mod plan;
+mod sequence;
+mod tried;
 
 pub use code::{Code, Op};
 pub use expr::Expr;
 pub use memory::NoMemory;
+pub use plan::{
+    Aim, Disposal, Fact, Facts, Kind, Left, Noted, Plan, PlanNode, PlanNodes, PlanOwner,
+    PlanOwners, Pumped, Stop,
+};
+pub use sequence::{Codes, Numbers, Sequence};
+pub use tried::{Tried, attempt};
