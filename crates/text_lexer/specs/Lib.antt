@@ -1,0 +1,5 @@
+pub mod Bytes
+pub mod Cursor
+pub mod Lexing
+pub mod Place
+pub mod Token

@@ -1,0 +1,53 @@
+//! Classes of bytes.
+
+ghost use Rattle.std.specs.Prelude.{◌≡◌, ◌<◌};
+ghost use Rattle.text_lexer.specs.Bytes.{is_blank, is_letter, is_digit, is_name_byte};
+ghost use Rattle.text_lexer.specs.Token.{escape_value, is_escape, is_plain};
+
+pub fn is_blank(b: u8) -> bool
+    ensures { result ≡ is_blank b }
+{
+    b == b' ' || b == b'\t' || b == b'\r' || b == b'\n'
+}
+
+pub fn is_letter(b: u8) -> bool
+    ensures { result ≡ is_letter b }
+{
+    b'a' <= b && b <= b'z'
+}
+
+pub fn is_digit(b: u8) -> bool
+    ensures { result ≡ is_digit b }
+{
+    b'0' <= b && b <= b'9'
+}
+
+pub fn is_name_byte(b: u8) -> bool
+    ensures { result ≡ is_name_byte b }
+{
+    is_letter(b) || is_digit(b) || b == b'_'
+}
+
+pub fn is_escape(b: u8) -> bool
+    ensures { result ≡ is_escape b }
+{
+    b == b'"' || b == b'\\' || b == b'n' || b == b't'
+}
+
+pub fn is_plain(b: u8) -> bool
+    ensures { result ≡ is_plain b }
+{
+    b >= b' ' && b != b'"' && b != b'\\'
+}
+
+/// What a backslash before the byte `b` means.
+pub fn escape_value(b: u8) -> char
+    requires { b < 128 }
+    ensures { result ≡ escape_value b }
+{
+    match b {
+        b'n' => '\n',
+        b't' => '\t',
+        _ => b as char,
+    }
+}

@@ -1,0 +1,13 @@
+//! The tokens of a component or script text, with their places.
+//!
+//! White space and comments part tokens. The longest run of bytes that has the form of a token is taken
+//! whole, and is a bad token where it is none.
+#![tactic(auto)]
+
+mod bytes;
+mod lexeme;
+mod lexer;
+mod token;
+
+pub use lexer::Lexer;
+pub use token::{BadToken, Mark, Reserved, Token, TokenKind};
