@@ -1,12 +1,12 @@
 -- The equations of evaluation, one for each form of expression.
-use Rattle.std.proofs.Common.{◌≡◌, ℕ, Bool, true, false, List, [], ◌∷◌, ◌++◌, if◌then◌else◌, refl, sym, ap, ◌∙◌}
+use Rattle.std.proofs.Common.{◌≡◌, ℕ, [], ◌∷◌, ◌++◌, if◌then◌else◌, sym, ap, ◌∙◌}
 use Rattle.values.specs.declared.code.Code.{Code}
 use Rattle.values.specs.declared.code.Op.{Op}
 use Rattle.values.specs.declared.expr.Expr.{Expr}
 use Rattle.values.specs.declared.expr.Expr.TheOpen as level
 use Rattle.values.specs.declared.expr.Expr.TheVariants.{Lit, Read, Binary, If, rolls-Lit, rolls-Read, rolls-Binary, rolls-If}
 use Rattle.values.specs.declared.expr.Expr.TheFolds.{fold-roll-Expr}
-use Rattle.values.specs.Evaluation.{truth, combined, Evaluated, evaluation_step, evaluation, value_of, distinct, reads_of}
+use Rattle.values.specs.Evaluation.{truth, combined, Evaluated, evaluation_step, evaluation, value_of}
 
 pub evaluation-Lit : (code : Code) (s : ℕ → Code) → evaluation (Lit code) s ≡ record { value = code; reads = [] }
 unfolding evaluation

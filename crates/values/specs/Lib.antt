@@ -1,2 +1,3 @@
 pub mod Evaluation
 pub mod Attempt
+pub mod Texts

@@ -6,6 +6,7 @@ mod expr;
 mod memory;
 mod plan;
 mod sequence;
+mod texts;
 mod tried;
 
 pub use code::{Code, Op};
@@ -16,4 +17,5 @@ pub use plan::{
     PlanOwners, Pumped, Stop,
 };
 pub use sequence::{Codes, Numbers, Sequence};
+pub use texts::{TextRefusal, Texts};
 pub use tried::{Tried, attempt};
