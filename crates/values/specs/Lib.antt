@@ -1,3 +1,4 @@
 pub mod Evaluation
 pub mod Attempt
+pub mod Packing
 pub mod Texts

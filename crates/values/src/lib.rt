@@ -4,6 +4,7 @@
 mod code;
 mod expr;
 mod memory;
+mod packing;
 mod plan;
 mod sequence;
 mod texts;
