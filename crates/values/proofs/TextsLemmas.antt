@@ -1,5 +1,5 @@
 -- Where a text stands in a table, and what adding one keeps.
-use Rattle.std.proofs.Common.{◌≡◌, ℕ, zero, suc, ◌<◌, ◌⊎◌, inl, inr, Bool, Option, Some, None, is_some, option_map, if◌then◌else◌, List, [], ◌∷◌, ◌++◌, length, map, slice_get, refl, ap, subst, ◌∙◌, arith, length-append}
+use Rattle.std.proofs.Common.{◌≡◌, ℕ, zero, suc, ◌<◌, ◌⊎◌, inl, inr, Bool, Option, Some, None, is_some, option_map, if◌then◌else◌, List, [], ◌∷◌, ◌++◌, length, map, slice_get, refl, sym, ap, subst, ◌∙◌, arith, length-append}
 use Rattle.std.specs.List.{position, list_any}
 use Rattle.std.specs.Str.{IsUtf8, bytes_eq}
 use Rattle.std.specs.Prelude.{String}
@@ -62,3 +62,7 @@ insert_key-added ks k text e new =
     ap (λ (b : Bool). map string_bytes (if b then ks else ks ++ k ∷ [])) (list_any-index_of (string_bytes k) ks ∙ ap (λ t. is_some (index_of t (map string_bytes ks))) e ∙ ap is_some new)
     ∙ map-append string_bytes ks (k ∷ [])
     ∙ ap (λ t. map string_bytes ks ++ t ∷ []) e
+
+-- no text has two places
+pub one_place : (texts : List (List ℕ)) → IsTable texts → (i j : ℕ) (text : List ℕ) → slice_get texts i ≡ Some text → slice_get texts j ≡ Some text → i ≡ j
+one_place texts table i j text at_i at_j = let same = sym (table.distinct i text at_i) ∙ table.distinct j text at_j in cc

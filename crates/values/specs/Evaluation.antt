@@ -66,6 +66,10 @@ evaluation e values = fold-Expr Evaluated (evaluation_step values) e
 abbrev pub value_of : Expr → (ℕ → Code) → Code
 value_of e values = (evaluation e values).value
 
+-- the rows that are read, in order, each as often as it is read
+abbrev pub readings_of : Expr → (ℕ → Code) → List ℕ
+readings_of e values = (evaluation e values).reads
+
 -- the list without the later places of each row
 abbrev pub distinct : List ℕ → List ℕ
 distinct [] = []
@@ -73,4 +77,4 @@ distinct (row ∷ rows) = row ∷ filter (λ r. not (r == row)) (distinct rows)
 
 -- the distinct rows that are read, in order of first reading
 abbrev pub reads_of : Expr → (ℕ → Code) → List ℕ
-reads_of e values = distinct (evaluation e values).reads
+reads_of e values = distinct (readings_of e values)

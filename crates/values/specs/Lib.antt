@@ -2,3 +2,5 @@ pub mod Evaluation
 pub mod Attempt
 pub mod Packing
 pub mod Texts
+pub mod Plan
+pub mod PlanRows

@@ -3,6 +3,7 @@
 
 mod code;
 mod expr;
+pub mod laws;
 mod memory;
 mod packing;
 mod plan;
