@@ -47,13 +47,14 @@ parents (suc (suc k)) owner later at = cc
 
 pub lawful : IsLawful (plan_of nodes owners)
 lawful = record {
-    few_nodes = omega arith;
-    some_owner = omega arith;
-    few_owners = omega arith;
-    reads_back = reads_back;
-    owned = owned;
-    root = λ owner at. ap (λ o. (unwrap_or o root).parent) (sym at);
-    inside = parents }
+  few_nodes = omega arith;
+  some_owner = omega arith;
+  few_owners = omega arith;
+  reads_back = reads_back;
+  owned = owned;
+  root = λ owner at. ap (λ o. (unwrap_or o root).parent) (sym at);
+  inside = parents;
+}
 
 pub no_owner : IsLawful (plan_of [] []) → ⊥
 no_owner l = omega (arith, l.some_owner)

@@ -1,15 +1,17 @@
 //! Laws of the definitions that the crate's contracts cite. Each is the contract of a function that
 //! does nothing.
-ghost use Rattle.std.specs.Prelude.{◌≡◌, ◌⊎◌, ◌↔◌, ℕ, List, Some, false, pos, negsuc, take, slice_get, Contains};
+ghost use Rattle.std.specs.Prelude.{◌≡◌, ◌⊎◌, ◌↔◌, ℕ, List, [], ◌∷◌, Some, false, pos, negsuc, take, slice_get, Contains};
 ghost use Rattle.values.specs.declared.code.Code.{Code as CodeValue};
 ghost use Rattle.values.specs.declared.expr.Expr.{Expr as ExprValue};
 ghost use Rattle.values.specs.Evaluation.{truth, combined, value_of, reads_of};
 ghost use Rattle.values.specs.Attempt.{Agrees, known_by, answer, tried_of};
 ghost use Rattle.values.specs.Packing.{packed, IsValue};
-ghost use Rattle.values.specs.Plan.{rows_in};
+ghost use Rattle.values.specs.Plan.{rows_in, IsLawful};
+ghost use Rattle.values.specs.PlanRows.{plan_of, signal_in, reader, root, inside};
 ghost use Rattle.values.specs.Texts.{IsTable};
 
 use crate::code::{Code, Op};
+use crate::plan::Kind;
 
 /// Evaluation depends on the rows that it reads alone.
 pub fn evaluation_is_by_reads()
@@ -61,4 +63,17 @@ pub fn arithmetic_is_held_to_the_ends()
     ensures remainder { combined Op.Rem (Code.Number (negsuc 6)) (Code.Number (pos 2)) ≡ Code.Number (negsuc 0) }
     ensures by_zero { combined Op.Div (Code.Number (pos 7)) (Code.Number (pos 0)) ≡ Code.Empty }
     ensures of_texts { combined Op.Less (Code.Word 1) (Code.Word 2) ≡ Code.Empty }
+{}
+
+/// Worked rows of plans: a signal of an inner owner, a memo and an effect are lawful. A plan with
+/// no owner is not, nor is a node that reads itself or an effect, one of an owner that is not there,
+/// an owner with no parent beside owner 0, or one inside itself.
+pub fn lawful_plans_are_told_apart()
+    ensures lawful { IsLawful (plan_of (signal_in 1 ∷ reader Kind.Memo 0 ∷ reader Kind.Effect 1 ∷ []) (root ∷ inside 0 ∷ [])) }
+    ensures no_owner { ¬ IsLawful (plan_of [] []) }
+    ensures reads_itself { ¬ IsLawful (plan_of (reader Kind.Memo 0 ∷ []) (root ∷ [])) }
+    ensures reads_effect { ¬ IsLawful (plan_of (signal_in 0 ∷ reader Kind.Effect 0 ∷ reader Kind.Memo 1 ∷ []) (root ∷ [])) }
+    ensures stranger { ¬ IsLawful (plan_of (signal_in 1 ∷ []) (root ∷ [])) }
+    ensures second_root { ¬ IsLawful (plan_of [] (root ∷ root ∷ [])) }
+    ensures own_parent { ¬ IsLawful (plan_of [] (root ∷ inside 1 ∷ [])) }
 {}
