@@ -1,5 +1,5 @@
 -- An attempt that is asked again, each time with the row that it needed, reads the rows in order and ends with the value.
-use Rattle.std.proofs.Common.{◌≡◌, ℕ, zero, suc, Bool, true, false, not, ◌||◌, Option, Some, None, IfSome, is_some, if◌then◌else◌, List, [], ◌∷◌, ◌++◌, take, slice_get, filter, ◌==◌, refl, sym, ap, subst, ◌∙◌, arith, rules}
+use Rattle.std.proofs.Common.{◌≡◌, ℕ, zero, suc, Bool, true, false, not, ◌||◌, Some, IfSome, is_some, if◌then◌else◌, List, [], ◌∷◌, take, slice_get, filter, ◌==◌, refl, ap, arith}
 use Rattle.values.specs.declared.code.Code.{Code}
 use Rattle.values.specs.declared.expr.Expr.{Expr}
 use Rattle.values.specs.Evaluation.{value_of, distinct, reads_of, evaluation}

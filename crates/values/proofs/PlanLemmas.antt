@@ -1,5 +1,5 @@
 -- The rows that an expression names.
-use Rattle.std.proofs.Common.{◌≡◌, ◌≢◌, ℕ, zero, suc, ◌⊎◌, inl, inr, Bool, true, false, not, if◌then◌else◌, List, [], ◌∷◌, ◌++◌, filter, ◌==◌, Contains, refl, sym, ap, subst, ◌∙◌, arith, rules}
+use Rattle.std.proofs.Common.{◌≡◌, ℕ, zero, suc, ◌⊎◌, inl, inr, Bool, true, false, not, if◌then◌else◌, List, [], ◌∷◌, ◌++◌, filter, ◌==◌, Contains, sym, ap, subst, ◌∙◌, arith}
 use Rattle.std.proofs.lemmas.List.Elements.{Contains-append_left, Contains-append_right, Contains-append_cases}
 use Rattle.values.specs.declared.code.Code.{Code}
 use Rattle.values.specs.declared.code.Op.{Op}
@@ -9,7 +9,7 @@ use Rattle.values.specs.declared.expr.Expr.TheOpen.{Expr-F}
 use Rattle.values.specs.declared.expr.Expr.TheVariants.{Lit, Read, Binary, If, rolls-Lit, rolls-Read, rolls-Binary, rolls-If}
 use Rattle.values.specs.declared.expr.Expr.TheViews.{roll-Expr}
 use Rattle.values.specs.declared.expr.Expr.TheFolds.{fold-roll-Expr, map-Expr, ind-Expr}
-use Rattle.values.specs.Evaluation.{truth, Evaluated, value_of, readings_of, distinct, reads_of}
+use Rattle.values.specs.Evaluation.{truth, value_of, readings_of, distinct, reads_of}
 use Rattle.values.specs.Plan.{rows_step, rows_in}
 use Rattle.values.proofs.Evaluation.{readings_of-Lit, readings_of-Read, readings_of-Binary, readings_of-If}
 

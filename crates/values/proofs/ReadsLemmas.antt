@@ -1,8 +1,7 @@
 -- Evaluation depends on the rows that it reads, and asks for them in order.
-use Rattle.std.proofs.Common.{◌≡◌, ℕ, zero, suc, ◌+◌, ◌<◌, ◌≤◌, ◌⊎◌, inl, inr, Bool, true, false, not, Option, Some, None, is_some, if◌then◌else◌, List, [], ◌∷◌, ◌++◌, length, map, take, slice_get, filter, ◌==◌, Contains, refl, sym, ap, subst, ◌∙◌, arith, rules}
+use Rattle.std.proofs.Common.{◌≡◌, ℕ, suc, Bool, true, false, not, if◌then◌else◌, List, [], ◌∷◌, ◌++◌, filter, ◌==◌, Contains, refl, sym, ap, subst, ◌∙◌, arith}
 use Rattle.std.specs.List.{AllByRecursion}
 use Rattle.values.specs.declared.code.Code.{Code}
-use Rattle.values.specs.declared.code.Op.{Op}
 use Rattle.values.specs.declared.expr.Expr.{Expr}
 use Rattle.values.specs.declared.expr.Expr.TheOpen as level
 use Rattle.values.specs.declared.expr.Expr.TheOpen.{Expr-F}

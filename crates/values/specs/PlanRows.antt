@@ -1,7 +1,6 @@
 -- Small plans, for the worked rows.
-use Rattle.std.specs.Prelude.{ℕ, List, [], ◌∷◌, Option, Some, None}
+use Rattle.std.specs.Prelude.{ℕ, List, [], Some, None}
 use Rattle.values.specs.declared.code.Code.TheVariants.{Empty}
-use Rattle.values.specs.declared.expr.Expr.{Expr}
 use Rattle.values.specs.declared.expr.Expr.TheVariants.{Lit, Read}
 use Rattle.values.specs.declared.plan.Kind.{Kind}
 use Rattle.values.specs.declared.plan.Kind.TheVariants.{Signal}

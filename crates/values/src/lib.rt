@@ -21,3 +21,6 @@ pub use plan::{
 pub use sequence::{Codes, Numbers, Sequence};
 pub use texts::{TextRefusal, Texts};
 pub use tried::{Tried, attempt};
+
+#[cfg(test)]
+mod tests;
