@@ -1,12 +1,12 @@
 -- What is known of an evaluation, by the form of the expression.
-use Rattle.std.proofs.Common.{◌≡◌, ℕ, Bool, true, false, not, List, [], ◌∷◌, ◌++◌, Option, Some, None, IfSome, is_some, if◌then◌else◌, ◌==◌, filter, refl, sym, ap, ◌∙◌, arith, rules}
+use Rattle.std.proofs.Common.{◌≡◌, ℕ, Bool, true, false, not, List, [], ◌∷◌, ◌++◌, Option, Some, None, IfSome, is_some, if◌then◌else◌, ◌==◌, filter, refl, sym, ap, ◌∙◌, arith}
 use Rattle.values.specs.declared.code.Code.{Code}
 use Rattle.values.specs.declared.code.Op.{Op}
 use Rattle.values.specs.declared.expr.Expr.{Expr}
 use Rattle.values.specs.declared.expr.Expr.TheVariants.{Lit, Read, Binary, If}
 use Rattle.values.specs.declared.tried.Tried.{Tried}
 use Rattle.values.specs.declared.tried.Tried.TheVariants.{Done, Needs}
-use Rattle.values.specs.Evaluation.{truth, combined, Evaluated, evaluation, value_of, distinct, reads_of}
+use Rattle.values.specs.Evaluation.{truth, combined, Evaluated, evaluation, value_of, distinct}
 use Rattle.values.specs.Attempt.{known_value, Agrees, first_unknown, answer, tried_of}
 use Rattle.values.proofs.Evaluation.{evaluation-Lit, evaluation-Read, evaluation-Binary, evaluation-If, taken}
 
@@ -81,6 +81,7 @@ tried_of-If c a b known s =
   where
     branch : Bool → Evaluated
     branch t = if t then evaluation a s else evaluation b s
+
     by_case : (u : Option ℕ) (t : Bool) → truth (value_of c s) ≡ t → answer (earlier u (first_unknown known (taken c a b s).reads)) (taken c a b s).value ≡ of_taken (answer u (value_of c s)) (answer (first_unknown known (evaluation a s).reads) (value_of a s)) (answer (first_unknown known (evaluation b s).reads) (value_of b s))
     by_case None true is = rw is refl
     by_case None false is = rw is refl

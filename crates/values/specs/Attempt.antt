@@ -1,5 +1,5 @@
 -- Evaluation with some rows known.
-use Rattle.std.specs.Prelude.{◌≡◌, ℕ, Option, Some, None, IfSome, is_some, if◌then◌else◌, List, [], ◌∷◌, ◌==◌}
+use Rattle.std.specs.Prelude.{◌≡◌, ℕ, Option, Some, None, IfSome, is_some, if◌then◌else◌, List, [], ◌∷◌, map, ◌==◌}
 use Rattle.values.specs.declared.code.Code.{Code}
 use Rattle.values.specs.declared.expr.Expr.{Expr}
 use Rattle.values.specs.declared.tried.Tried.{Tried}
@@ -10,6 +10,10 @@ use Rattle.values.specs.Evaluation.{value_of, reads_of}
 abbrev pub known_value : List (ℕ × Code) → ℕ → Option Code
 known_value [] row = None
 known_value (entry ∷ entries) row = if entry.0 == row then Some entry.1 else known_value entries row
+
+-- the rows, each with its value
+abbrev pub known_by : (ℕ → Code) → List ℕ → List (ℕ × Code)
+known_by values rows = map (λ row. (row, values row)) rows
 
 -- the values are those that are known, wherever one is
 abbrev pub Agrees : (ℕ → Code) → List (ℕ × Code) → Type 0

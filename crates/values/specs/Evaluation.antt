@@ -1,5 +1,5 @@
 -- The value of an expression, and the rows that it reads.
-use Rattle.std.specs.Prelude.{ℕ, zero, Bool, true, false, not, ◌&&◌, if◌then◌else◌, List, [], ◌∷◌, ◌++◌, ℤ, pos, negsuc, ◌+ℤ◌, ◌-ℤ◌, ◌*ℤ◌, int_div, int_rem, int_lt, ◌==◌}
+use Rattle.std.specs.Prelude.{ℕ, Bool, true, false, not, if◌then◌else◌, List, [], ◌∷◌, ◌++◌, ℤ, pos, ◌+ℤ◌, ◌-ℤ◌, ◌*ℤ◌, int_div, int_rem, int_lt, ◌==◌}
 use Rattle.std.specs.Int.{saturate_signed, w32}
 use Rattle.std.specs.Ordering.{int_eq}
 use Rattle.std.specs.List.{filter}
@@ -66,6 +66,10 @@ evaluation e values = fold-Expr Evaluated (evaluation_step values) e
 abbrev pub value_of : Expr → (ℕ → Code) → Code
 value_of e values = (evaluation e values).value
 
+-- the rows that are read, in order, each as often as it is read
+abbrev pub readings_of : Expr → (ℕ → Code) → List ℕ
+readings_of e values = (evaluation e values).reads
+
 -- the list without the later places of each row
 abbrev pub distinct : List ℕ → List ℕ
 distinct [] = []
@@ -73,4 +77,4 @@ distinct (row ∷ rows) = row ∷ filter (λ r. not (r == row)) (distinct rows)
 
 -- the distinct rows that are read, in order of first reading
 abbrev pub reads_of : Expr → (ℕ → Code) → List ℕ
-reads_of e values = distinct (evaluation e values).reads
+reads_of e values = distinct (readings_of e values)

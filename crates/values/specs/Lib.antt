@@ -1,2 +1,6 @@
 pub mod Evaluation
 pub mod Attempt
+pub mod Packing
+pub mod Texts
+pub mod Plan
+pub mod PlanRows

@@ -3,9 +3,12 @@
 
 mod code;
 mod expr;
+pub mod laws;
 mod memory;
+mod packing;
 mod plan;
 mod sequence;
+mod texts;
 mod tried;
 
 pub use code::{Code, Op};
@@ -16,4 +19,8 @@ pub use plan::{
     PlanOwners, Pumped, Stop,
 };
 pub use sequence::{Codes, Numbers, Sequence};
+pub use texts::{TextRefusal, Texts};
 pub use tried::{Tried, attempt};
+
+#[cfg(test)]
+mod tests;

@@ -1,5 +1,4 @@
-use Rattle.std.proofs.Common.{rules, ◌≡◌, ℕ, MatchResult, arith, sym, ap, ◌∙◌}
-use Rattle.values.specs.Attempt.{known_value, Agrees, tried_of}
+use Rattle.std.proofs.Common.{arith}
 use Rattle.values.proofs.AttemptLemmas.{tried_of-Lit, tried_of-Read, tried_of-Binary, tried_of-If}
 use Rattle.values.proofs.tried.+evaluate.Goals as goal
 
