@@ -1,1 +1,3 @@
 pub mod Lexemes
+pub mod Places
+pub mod Skipping

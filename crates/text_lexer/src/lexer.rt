@@ -1,13 +1,13 @@
 //! The lexer, which gives one token after another.
 
-ghost use Rattle.std.specs.Prelude.{◌≡◌, ◌≢◌, ℕ, ◌+◌, ◌-◌, ◌^◌, ◌<◌, ◌≤◌, length, slice_range, IfOk, IfErr, OnErr, SomeIff};
+ghost use Rattle.std.specs.Prelude.{◌≡◌, ◌≢◌, ℕ, ◌+◌, ◌-◌, ◌^◌, ◌<◌, ◌≤◌, length, ◌==◌, if◌then◌else◌, slice_range, IfOk, IfErr, OnErr, SomeIff};
 ghost use Rattle.std.specs.String.{string_bytes};
 ghost use Rattle.text_lexer.specs.Cursor.{start_of};
 ghost use Rattle.text_lexer.specs.Place.{IsPlace};
 ghost use Rattle.text_lexer.specs.Lexing.{Skips, IsNext, IsBad, after};
 ghost use Rattle.text_lexer.specs.Token.{IsTokenOf, decimal_value, content_of};
 
-use crate::bytes::{escape_value, is_blank};
+use crate::bytes::{begins_token, comment_goes_on, escape_value};
 use crate::lexeme::lexeme;
 use crate::token::{BadToken, Token, TokenKind};
 use std::alloc::Global;
@@ -63,7 +63,14 @@ impl Place {
     }
 
     /// The place behind the byte `b`, which stands here.
-    fn past(self, b: u8) -> Place {
+    fn past(self, b: u8) -> Place
+        requires offset_fits { self.offset + 1 < 2 ^ 64 }
+        requires line_fits { self.line + 1 < 2 ^ 32 }
+        requires column_fits { self.column + 1 < 2 ^ 32 }
+        ensures offset { result.offset ≡ self.offset + 1 }
+        ensures line { result.line ≡ (if b == 10 then self.line + 1 else self.line) }
+        ensures column { result.column ≡ (if b == 10 then 1 else self.column + 1) }
+    {
         let offset = self.offset + 1;
         if b == b'\n' {
             return Place {
@@ -178,10 +185,10 @@ impl<'a> Lexer<'a> {
         let mut in_comment = false;
         while place.offset < bytes.len() {
             let b = bytes[place.offset];
-            if !in_comment && !is_blank(b) && b != b'#' {
+            if !in_comment && begins_token(b) {
                 break;
             }
-            in_comment = (in_comment || b == b'#') && b != b'\n';
+            in_comment = comment_goes_on(in_comment, b);
             place = place.past(b);
         }
         place
