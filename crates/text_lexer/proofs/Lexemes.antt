@@ -38,7 +38,7 @@ mark_first Minus = refl
 mark_first Star = refl
 mark_first Percent = refl
 
-mark_some : (m : Mark) → leb 1 (length (mark_bytes m)) ≡ true
+pub mark_some : (m : Mark) → leb 1 (length (mark_bytes m)) ≡ true
 mark_some ClosingTag = refl
 mark_some EqualTo = refl
 mark_some Arrow = refl
@@ -78,7 +78,7 @@ mark_short Minus = refl
 mark_short Star = refl
 mark_short Percent = refl
 
-reserved_word : (r : Reserved) → is_word (reserved_bytes r) ≡ true
+pub reserved_word : (r : Reserved) → is_word (reserved_bytes r) ≡ true
 reserved_word Component = refl
 reserved_word Signal = refl
 reserved_word Memo = refl
@@ -182,22 +182,22 @@ run_most p (b ∷ bs) (suc m) e h = go (p b) refl (λ rest. run_most p bs m rest
     go true f more = let k = more (rw f at e) in rw f (omega arith)
     go false f more = let z : false ≡ true = rw f at e in cc
 
-word_first : (bs : List ℕ) → is_word bs ≡ true → is_letter (get_or bs 0 0) ≡ true
+pub word_first : (bs : List ℕ) → is_word bs ≡ true → is_letter (get_or bs 0 0) ≡ true
 word_first bs h = (and_parts (is_letter (get_or bs 0 0)) (list_all is_name_byte bs) h).0
 
-word_all : (bs : List ℕ) → is_word bs ≡ true → list_all is_name_byte bs ≡ true
+pub word_all : (bs : List ℕ) → is_word bs ≡ true → list_all is_name_byte bs ≡ true
 word_all bs h = (and_parts (is_letter (get_or bs 0 0)) (list_all is_name_byte bs) h).1
 
-digits_first : (bs : List ℕ) → is_digits bs ≡ true → is_digit (get_or bs 0 0) ≡ true
+pub digits_first : (bs : List ℕ) → is_digits bs ≡ true → is_digit (get_or bs 0 0) ≡ true
 digits_first bs h = (and_parts (is_digit (get_or bs 0 0)) (list_all is_digit bs) h).0
 
-digits_all : (bs : List ℕ) → is_digits bs ≡ true → list_all is_digit bs ≡ true
+pub digits_all : (bs : List ℕ) → is_digits bs ≡ true → list_all is_digit bs ≡ true
 digits_all bs h = (and_parts (is_digit (get_or bs 0 0)) (list_all is_digit bs) h).1
 
-text_first : (bs : List ℕ) → is_text bs ≡ true → eqb (get_or bs 0 0) 34 ≡ true
+pub text_first : (bs : List ℕ) → is_text bs ≡ true → eqb (get_or bs 0 0) 34 ≡ true
 text_first bs h = (and_parts (eqb (get_or bs 0 0) 34) (is_text_rest (drop 1 bs)) h).0
 
-text_rest : (bs : List ℕ) → is_text bs ≡ true → is_text_rest (drop 1 bs) ≡ true
+pub text_rest : (bs : List ℕ) → is_text bs ≡ true → is_text_rest (drop 1 bs) ≡ true
 text_rest bs h = (and_parts (eqb (get_or bs 0 0) 34) (is_text_rest (drop 1 bs)) h).1
 
 -- What the first byte of bytes that have the form of a token tells of the rest.
@@ -226,7 +226,7 @@ lexeme_text bs l x = elim x [
   ]
 
 -- a token has the form of one
-token_lexeme : (kind : TokenKind) (bs : List ℕ) → IsToken kind bs → IsLexeme bs
+pub token_lexeme : (kind : TokenKind) (bs : List ℕ) → IsToken kind bs → IsLexeme bs
 token_lexeme Name bs t = word t.0
 token_lexeme (ReservedWord r) bs t = word (rw t (reserved_word r))
 token_lexeme Number bs t = digits t.0

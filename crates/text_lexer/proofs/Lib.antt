@@ -1,3 +1,5 @@
+pub mod Contents
 pub mod Lexemes
 pub mod Places
 pub mod Skipping
+pub mod Tokens

@@ -7,6 +7,7 @@
 mod bytes;
 mod lexeme;
 mod lexer;
+mod meaning;
 mod token;
 
 pub use lexer::Lexer;

@@ -1,0 +1,63 @@
+-- What the bytes of a number and a text mean.
+use Rattle.std.proofs.Common.{◌≡◌, ℕ, zero, suc, ◌+◌, ◌-◌, ◌<◌, ◌≤◌, Bool, true, false, ◌&&◌, eqb, eqb-true, List, [], ◌∷◌, ◌++◌, length, take, drop, get_or, refl, sym, ◌∙◌, ap, subst, arith, rules}
+use Rattle.std.proofs.lemmas.Bool.{and_parts, false≢true, ne_eqb, eq-eqb, cond-true, cond-false}
+use Rattle.std.proofs.lemmas.List.{append_assoc, drop_more, drop_all, length-drop, take-append-drop}
+use Rattle.std.proofs.lemmas.Str.Parse.{IsNumeralModel, numerals_by_fold}
+use Rattle.std.specs.List.{list_all}
+use Rattle.text_lexer.specs.Bytes.{is_digit}
+use Rattle.text_lexer.specs.Token.{is_escape, is_plain, is_text_rest, escape_value, unescaped, decimal_value, decimal_value_after}
+use Rattle.text_lexer.proofs.Tokens.{rest_escape, rest_plain, rest_last}
+
+-- digits, and the number that they write
+pub numerals : IsNumeralModel (λ ds. list_all is_digit ds ≡ true) decimal_value
+numerals = numerals_by_fold _ (search rules) decimal_value_after (search rules)
+
+-- the rest of a text is its content and the closing quotation mark
+pub rest_closed : (bs : List ℕ) → is_text_rest bs ≡ true → take (length bs - 1) bs ++ 34 ∷ [] ≡ bs
+rest_closed bs h =
+    let last = rest_last bs h in
+    let some = last.0 in
+    let at : length bs - 1 + 1 ≡ length bs = omega arith in
+    let end : drop (length bs - 1) bs ≡ 34 ∷ [] = drop_more bs (length bs - 1) 0 (omega arith) ∙ rw (last.1, at, drop_all (length bs) bs (omega arith)) refl in
+    rw (← end) (take-append-drop (length bs - 1) bs)
+
+unescaped_plain : (b : ℕ) (bs : List ℕ) → eqb b 92 ≡ false → unescaped (b ∷ bs) ≡ b ∷ unescaped bs
+unescaped_plain b [] e = refl
+unescaped_plain b (c ∷ bs) e = cond-false (eqb b 92) (escape_value c ∷ unescaped bs) (b ∷ unescaped (c ∷ bs)) e
+
+-- content with no backslash means itself
+pub unescaped_none : (bs : List ℕ) → ((i : ℕ) → i < length bs → get_or bs i 0 ≡ 92 → ⊥) → unescaped bs ≡ bs
+unescaped_none [] none = refl
+unescaped_none (b ∷ bs) none =
+    unescaped_plain b bs (ne_eqb b 92 (none 0 (omega arith))) ∙ ap (λ v. b ∷ v) (unescaped_none bs (λ i l. none (suc i) (omega arith)))
+
+-- the first backslash of content, and the byte that it stands before
+pub unescaped_first : (plain more : List ℕ) (b : ℕ) → ((i : ℕ) → i < length plain → get_or plain i 0 ≡ 92 → ⊥) → unescaped (plain ++ 92 ∷ b ∷ more) ≡ plain ++ escape_value b ∷ unescaped more
+unescaped_first [] more b none = refl
+unescaped_first (p ∷ plain) more b none =
+    unescaped_plain p (plain ++ 92 ∷ b ∷ more) (ne_eqb p 92 (none 0 (omega arith))) ∙ ap (λ v. p ∷ v) (unescaped_first plain more b (λ i l. none (suc i) (omega arith)))
+
+-- what stands behind the plain bytes at the front is again the rest of a text
+rest_past_plain : (plain more : List ℕ) (c : ℕ) → ((i : ℕ) → i < length plain → get_or plain i 0 ≡ 92 → ⊥) → is_text_rest (plain ++ c ∷ more) ≡ true → is_text_rest (c ∷ more) ≡ true
+rest_past_plain [] more c none h = h
+rest_past_plain (p ∷ []) more c none h =
+    (and_parts (is_plain p) (is_text_rest (c ∷ more)) (sym (rest_plain p c more (ne_eqb p 92 (none 0 (omega arith)))) ∙ h)).1
+rest_past_plain (p ∷ q ∷ plain) more c none h =
+    rest_past_plain (q ∷ plain) more c (λ i l. none (suc i) (omega arith)) (and_parts (is_plain p) (is_text_rest (q ∷ (plain ++ c ∷ more))) (sym (rest_plain p q (plain ++ c ∷ more) (ne_eqb p 92 (none 0 (omega arith)))) ∙ h)).1
+
+-- an escape stands behind the first backslash, and then again the rest of a text
+pub record IsEscapeFirst (escape : List ℕ) : Type 0 where
+  pub some : 0 < length escape
+  pub is_escape : is_escape (get_or escape 0 0) ≡ true
+  pub rest : is_text_rest (drop 1 escape ++ 34 ∷ []) ≡ true
+
+escape_first : (escape : List ℕ) → is_text_rest (92 ∷ (escape ++ 34 ∷ [])) ≡ true → IsEscapeFirst escape
+escape_first [] h = absurd (false≢true h)
+escape_first (b ∷ bs) h =
+    let parts = and_parts (is_escape b) (is_text_rest (bs ++ 34 ∷ [])) h in
+    record { some = omega arith; is_escape = parts.0; rest = parts.1 }
+
+pub escape_behind : (written plain escape : List ℕ) → written ≡ plain ++ 92 ∷ escape → ((i : ℕ) → i < length plain → get_or plain i 0 ≡ 92 → ⊥) → is_text_rest (written ++ 34 ∷ []) ≡ true → IsEscapeFirst escape
+escape_behind written plain escape e none h =
+    let whole = rw (e, append_assoc) at h in
+    escape_first escape (rest_past_plain plain (escape ++ 34 ∷ []) 92 none whole)
