@@ -1,12 +1,17 @@
 -- What the bytes of a number and a text mean.
-use Rattle.std.proofs.Common.{◌≡◌, ℕ, zero, suc, ◌+◌, ◌-◌, ◌<◌, ◌≤◌, Bool, true, false, ◌&&◌, eqb, eqb-true, List, [], ◌∷◌, ◌++◌, length, take, drop, get_or, refl, sym, ◌∙◌, ap, subst, arith, rules}
+use Rattle.std.proofs.Common.{◌≡◌, ℕ, zero, suc, ◌+◌, ◌-◌, ◌^◌, ◌<◌, ◌≤◌, Bool, true, false, ◌&&◌, eqb, eqb-true, List, [], ◌∷◌, ◌++◌, length, take, drop, get_or, refl, sym, ◌∙◌, ap, subst, Result, Ok, Err, arith, rules}
+use Rattle.std.proofs.lemmas.Str.{IsCharBoundary-before_ascii, IsCharBoundary-after_ascii}
+use Rattle.std.specs.Str.{IsUtf8, IsCharBoundary}
+use Rattle.std.specs.Option.{SomeIff}
+use Rattle.std.specs.Result.{OkIff, result_ok}
 use Rattle.std.proofs.lemmas.Bool.{and_parts, false≢true, ne_eqb, eq-eqb, cond-true, cond-false}
 use Rattle.std.proofs.lemmas.List.{append_assoc, drop_more, drop_all, length-drop, take-append-drop}
 use Rattle.std.proofs.lemmas.Str.Parse.{IsNumeralModel, numerals_by_fold}
-use Rattle.std.specs.List.{list_all}
+use Rattle.std.specs.List.{list_all, slice_range}
 use Rattle.text_lexer.specs.Bytes.{is_digit}
-use Rattle.text_lexer.specs.Token.{is_escape, is_plain, is_text_rest, escape_value, unescaped, decimal_value, decimal_value_after}
-use Rattle.text_lexer.proofs.Tokens.{rest_escape, rest_plain, rest_last}
+use Rattle.text_lexer.specs.Token.{is_escape, is_plain, is_text, is_text_rest, escape_value, unescaped, decimal_value, decimal_value_after}
+use Rattle.text_lexer.proofs.Tokens.{rest_escape, rest_plain, rest_last, text_ends}
+use Rattle.text_lexer.proofs.Lexemes.{text_rest}
 
 -- digits, and the number that they write
 pub numerals : IsNumeralModel (λ ds. list_all is_digit ds ≡ true) decimal_value
@@ -61,3 +66,27 @@ pub escape_behind : (written plain escape : List ℕ) → written ≡ plain ++ 9
 escape_behind written plain escape e none h =
     let whole = rw (e, append_assoc) at h in
     escape_first escape (rest_past_plain plain (escape ++ 34 ∷ []) 92 none whole)
+
+pub decimal_some : {E : Type 0} → (bs : List ℕ) (r : Result ℕ E) → 0 < length bs → OkIff r ((0 < length bs) × (decimal_value bs < 2 ^ 32)) (decimal_value bs) → SomeIff (result_ok r) (decimal_value bs < 2 ^ 32) (decimal_value bs)
+decimal_some bs (Ok x) some h = (h.0.1, h.1)
+decimal_some bs (Err e) some h = λ small. h (some, small)
+
+-- a text may be cut behind its first quotation mark and before its last one
+pub text_opened : (bs : List ℕ) → IsUtf8 bs → is_text bs ≡ true → IsCharBoundary bs 1
+text_opened bs utf8 h =
+    let ends = text_ends bs h in
+    let first = ends.first in
+    IsCharBoundary-after_ascii bs 0 utf8 ends.some first
+
+pub text_closed : (bs : List ℕ) → is_text bs ≡ true → IsCharBoundary bs (length bs - 1)
+text_closed bs h =
+    let ends = text_ends bs h in
+    let some = ends.some in
+    IsCharBoundary-before_ascii bs (length bs - 1) (omega arith) ends.last
+
+pub written_closed : (bs : List ℕ) → is_text bs ≡ true → is_text_rest (slice_range bs 1 (length bs - 1) ++ 34 ∷ []) ≡ true
+written_closed bs h =
+    let rest = text_rest bs h in
+    let size = length-drop 1 bs in
+    let at : length bs - 1 - 1 ≡ length (drop 1 bs) - 1 = omega arith in
+    rw (at, rest_closed (drop 1 bs) rest) rest

@@ -164,11 +164,11 @@ word_some : (bs : List ℕ) → is_word bs ≡ true → 0 < length bs
 word_some [] h = absurd (false≢true h)
 word_some (b ∷ bs) h = omega arith
 
-digits_some : (bs : List ℕ) → is_digits bs ≡ true → 0 < length bs
+pub digits_some : (bs : List ℕ) → is_digits bs ≡ true → 0 < length bs
 digits_some [] h = absurd (false≢true h)
 digits_some (b ∷ bs) h = omega arith
 
-text_ends : (bs : List ℕ) → is_text bs ≡ true → HasAsciiEnds bs
+pub text_ends : (bs : List ℕ) → is_text bs ≡ true → HasAsciiEnds bs
 text_ends [] h = absurd (false≢true h)
 text_ends (b ∷ bs) h =
     let first = eqb-true b 34 (text_first (b ∷ bs) h) in
