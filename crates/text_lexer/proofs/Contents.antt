@@ -1,11 +1,12 @@
 -- What the bytes of a number and a text mean.
 use Rattle.std.proofs.Common.{◌≡◌, ℕ, zero, suc, ◌+◌, ◌-◌, ◌^◌, ◌<◌, ◌≤◌, Bool, true, false, ◌&&◌, eqb, eqb-true, List, [], ◌∷◌, ◌++◌, length, take, drop, get_or, refl, sym, ◌∙◌, ap, subst, Result, Ok, Err, arith, rules}
-use Rattle.std.proofs.lemmas.Str.{IsCharBoundary-before_ascii, IsCharBoundary-after_ascii}
+use Rattle.std.proofs.lemmas.Str.{IsUtf8-drop, IsCharBoundary-before_ascii, IsCharBoundary-after_ascii}
 use Rattle.std.specs.Str.{IsUtf8, IsCharBoundary}
 use Rattle.std.specs.Option.{SomeIff}
 use Rattle.std.specs.Result.{OkIff, result_ok}
 use Rattle.std.proofs.lemmas.Bool.{and_parts, false≢true, ne_eqb, eq-eqb, cond-true, cond-false}
-use Rattle.std.proofs.lemmas.List.{append_assoc, drop_more, drop_all, length-drop, take-append-drop}
+use Rattle.std.proofs.lemmas.Bool.Decides.{nat_tests}
+use Rattle.std.proofs.lemmas.List.{append_assoc, length-append, get_or_at, drop_at, drop_more, drop_all, length-drop, take-append-drop}
 use Rattle.std.proofs.lemmas.Str.Parse.{IsNumeralModel, numerals_by_fold}
 use Rattle.std.specs.List.{list_all, slice_range}
 use Rattle.text_lexer.specs.Bytes.{is_digit}
@@ -53,19 +54,42 @@ rest_past_plain (p ∷ q ∷ plain) more c none h =
 -- an escape stands behind the first backslash, and then again the rest of a text
 pub record IsEscapeFirst (escape : List ℕ) : Type 0 where
   pub some : 0 < length escape
-  pub is_escape : is_escape (get_or escape 0 0) ≡ true
+  pub escaped : is_escape (get_or escape 0 0) ≡ true
   pub rest : is_text_rest (drop 1 escape ++ 34 ∷ []) ≡ true
 
 escape_first : (escape : List ℕ) → is_text_rest (92 ∷ (escape ++ 34 ∷ [])) ≡ true → IsEscapeFirst escape
 escape_first [] h = absurd (false≢true h)
 escape_first (b ∷ bs) h =
     let parts = and_parts (is_escape b) (is_text_rest (bs ++ 34 ∷ [])) h in
-    record { some = omega arith; is_escape = parts.0; rest = parts.1 }
+    record { some = omega arith; escaped = parts.0; rest = parts.1 }
+
+pub escape_ascii : (b : ℕ) → is_escape b ≡ true → b < 128
+escape_ascii b h = grind (arith, nat_tests)
+
+pub value_ascii : (b : ℕ) → b < 128 → escape_value b < 128
+value_ascii b h = grind (arith, nat_tests)
 
 pub escape_behind : (written plain escape : List ℕ) → written ≡ plain ++ 92 ∷ escape → ((i : ℕ) → i < length plain → get_or plain i 0 ≡ 92 → ⊥) → is_text_rest (written ++ 34 ∷ []) ≡ true → IsEscapeFirst escape
 escape_behind written plain escape e none h =
     let whole = rw (e, append_assoc) at h in
     escape_first escape (rest_past_plain plain (escape ++ 34 ∷ []) 92 none whole)
+
+pub utf8_behind : (rest plain escape : List ℕ) → IsUtf8 rest → rest ≡ plain ++ 92 ∷ escape → IsUtf8 escape
+utf8_behind rest plain escape utf8 e =
+    let size = length-append plain (92 ∷ escape) in
+    let long = ap length e in
+    let here : get_or rest (length plain) 0 ≡ 92 = rw e (get_or_at plain 92 escape 0 (length plain) refl) in
+    let split : rest ≡ (plain ++ 92 ∷ []) ++ escape = rw append_assoc e in
+    let front = length-append plain (92 ∷ []) in
+    let behind : drop (length plain + 1) rest ≡ escape = rw split (drop_at (plain ++ 92 ∷ []) escape (length plain + 1) (omega arith)) in
+    subst (λ v. IsUtf8 v) behind (IsUtf8-drop rest (length plain + 1) utf8 (IsCharBoundary-after_ascii rest (length plain) utf8 (omega arith) (omega arith)))
+
+pub unescaped_more : (content wide rest plain escape more whole : List ℕ) (ch : ℕ) → rest ≡ plain ++ 92 ∷ escape → ((i : ℕ) → i < length plain → get_or plain i 0 ≡ 92 → ⊥) → 0 < length escape → more ≡ drop 1 escape → ch ≡ escape_value (get_or escape 0 0) → wide ≡ (content ++ plain) ++ ch ∷ [] → content ++ unescaped rest ≡ whole → wide ++ unescaped more ≡ whole
+unescaped_more content wide rest plain [] more whole ch e none some m c w h = absurd (omega arith)
+unescaped_more content wide rest plain (b ∷ bs) more whole ch e none some m c w h =
+    let is = unescaped_first plain bs b none in
+    let was : content ++ (plain ++ escape_value b ∷ unescaped bs) ≡ whole = ap (λ v. content ++ v) (sym is ∙ sym (ap unescaped e)) ∙ h in
+    rw (w, c, m, append_assoc, append_assoc) was
 
 pub decimal_some : {E : Type 0} → (bs : List ℕ) (r : Result ℕ E) → 0 < length bs → OkIff r ((0 < length bs) × (decimal_value bs < 2 ^ 32)) (decimal_value bs) → SomeIff (result_ok r) (decimal_value bs < 2 ^ 32) (decimal_value bs)
 decimal_some bs (Ok x) some h = (h.0.1, h.1)

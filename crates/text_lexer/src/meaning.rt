@@ -1,8 +1,8 @@
 //! The bytes of a token, and what those of a number and a text mean.
 
-ghost use Rattle.std.specs.Prelude.{◌≡◌, ◌+◌, ◌-◌, ◌^◌, ◌<◌, [], ◌∷◌, ◌++◌, length, slice_range, IsTrue, IfOk, SomeIff};
+ghost use Rattle.std.specs.Prelude.{◌≡◌, ◌+◌, ◌-◌, ◌^◌, ◌<◌, [], ◌∷◌, ◌++◌, length, slice_index, slice_range, IsTrue, IfOk, SomeIff};
 ghost use Rattle.std.specs.String.{string_bytes};
-ghost use Rattle.text_lexer.specs.Token.{IsTokenOf, decimal_value, is_digits, is_text, is_text_rest, unescaped};
+ghost use Rattle.text_lexer.specs.Token.{IsTokenOf, decimal_value, escape_value, is_digits, is_escape, is_text, is_text_rest, unescaped};
 
 use crate::bytes::escape_value;
 use crate::token::Token;
@@ -34,6 +34,16 @@ pub fn without_quotes(text: &str) -> &str
     &text[1..text.len() - 1]
 }
 
+/// What the escape means whose second byte is the first one here.
+fn escaped(escape: &str) -> char
+    requires some { 0 < length escape.now }
+    requires escape { IsTrue (is_escape (slice_index escape.now 0)) }
+    ensures value { result ≡ escape_value (slice_index escape.now 0) }
+    ensures ascii { result < 128 }
+{
+    escape_value(escape.as_bytes()[0])
+}
+
 /// The content of a text with its escapes taken out.
 pub fn unescape(alloc: Global, written: &str) -> Result<String, NoMemory>
     requires { IsTrue (is_text_rest (written.now ++ 34 ∷ [])) }
@@ -43,7 +53,7 @@ pub fn unescape(alloc: Global, written: &str) -> Result<String, NoMemory>
     let mut rest = written;
     while let Some((plain, escape)) = rest.split_once('\\') {
         content.push_str(plain)?;
-        content.push(escape_value(escape.as_bytes()[0]))?;
+        content.push(escaped(escape))?;
         rest = &escape[1..];
     }
     content.push_str(rest)?;
