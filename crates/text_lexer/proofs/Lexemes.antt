@@ -15,10 +15,10 @@ use Rattle.text_lexer.specs.Bytes.{is_letter, is_digit, is_name_byte}
 use Rattle.text_lexer.specs.Token.{reserved_bytes, mark_bytes, is_word, is_digits, is_text, is_text_rest, is_plain, is_escape, IsLexeme, word, digits, text, mark, IsToken, IsLongest, HasNoToken}
 
 -- a byte that begins a mark, and none of a word, a number or a text
-abbrev is_other : ℕ → Bool
+abbrev pub is_other : ℕ → Bool
 is_other b = not (is_letter b) && (not (is_digit b) && not (eqb b 34))
 
-mark_first : (m : Mark) → is_other (get_or (mark_bytes m) 0 0) ≡ true
+pub mark_first : (m : Mark) → is_other (get_or (mark_bytes m) 0 0) ≡ true
 mark_first ClosingTag = refl
 mark_first EqualTo = refl
 mark_first Arrow = refl
@@ -140,22 +140,22 @@ reserved_short Remove = refl
 reserved_short Move = refl
 reserved_short To = refl
 
-letter_no_digit : (b : ℕ) → is_letter b ≡ true → is_digit b ≡ true → ⊥
+pub letter_no_digit : (b : ℕ) → is_letter b ≡ true → is_digit b ≡ true → ⊥
 letter_no_digit b l d = grind (arith, nat_tests)
 
-letter_no_quote : (b : ℕ) → is_letter b ≡ true → eqb b 34 ≡ true → ⊥
+pub letter_no_quote : (b : ℕ) → is_letter b ≡ true → eqb b 34 ≡ true → ⊥
 letter_no_quote b l d = grind (arith, nat_tests)
 
-digit_no_quote : (b : ℕ) → is_digit b ≡ true → eqb b 34 ≡ true → ⊥
+pub digit_no_quote : (b : ℕ) → is_digit b ≡ true → eqb b 34 ≡ true → ⊥
 digit_no_quote b l d = grind (arith, nat_tests)
 
-letter_no_other : (b : ℕ) → is_letter b ≡ true → is_other b ≡ true → ⊥
+pub letter_no_other : (b : ℕ) → is_letter b ≡ true → is_other b ≡ true → ⊥
 letter_no_other b l o = let z : false ≡ true = rw l at o in cc
 
-digit_no_other : (b : ℕ) → is_digit b ≡ true → is_other b ≡ true → ⊥
+pub digit_no_other : (b : ℕ) → is_digit b ≡ true → is_other b ≡ true → ⊥
 digit_no_other b l o = grind (arith, nat_tests)
 
-quote_no_other : (b : ℕ) → eqb b 34 ≡ true → is_other b ≡ true → ⊥
+pub quote_no_other : (b : ℕ) → eqb b 34 ≡ true → is_other b ≡ true → ⊥
 quote_no_other b l o = grind (arith, nat_tests)
 
 plain_no_quote : (b : ℕ) → is_plain b ≡ true → eqb b 34 ≡ false

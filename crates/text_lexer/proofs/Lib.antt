@@ -3,3 +3,4 @@ pub mod Lexemes
 pub mod Places
 pub mod Skipping
 pub mod Tokens
+pub mod Unique

@@ -229,7 +229,7 @@ place_past_token first_line text start line column n kind p x =
       let here : get_or bs k 0 ≡ get_or text (start + k) 0 = get_or-take n (drop start text) k 0 l ∙ get_or-drop start text k 0 in
       no_feed bs (token_inside kind bs x.token) k (omega arith) (here ∙ e))
 
-end_or_not : (kind : TokenKind) → (kind ≡ End) ⊎ (kind ≡ End → ⊥)
+pub end_or_not : (kind : TokenKind) → (kind ≡ End) ⊎ (kind ≡ End → ⊥)
 end_or_not Name = inr (λ e. cc)
 end_or_not (ReservedWord r) = inr (λ e. cc)
 end_or_not Number = inr (λ e. cc)
