@@ -61,4 +61,20 @@ pub record IsBad (cursor : Cursor) (bad : BadToken) : Type 0 where
 -- from the first cursor on, these tokens come one after another and lead to the second
 pub data Lexes : Cursor → List Token → Cursor → Type 0 where
   done : {cursor : Cursor} → Lexes cursor [] cursor
-  token : {cursor last : Cursor} {tokens : List Token} (t : Token) → IsNext cursor t → Lexes (after cursor t) tokens last → Lexes cursor (t ∷ tokens) last
+  more : {cursor last : Cursor} {tokens : List Token} (t : Token) → IsNext cursor t → Lexes (after cursor t) tokens last → Lexes cursor (t ∷ tokens) last
+
+-- a cursor has at most one next token
+abbrev pub HasOneNext : Cursor → Type 0
+HasOneNext cursor = (a b : Token) → IsNext cursor a → IsNext cursor b → a ≡ b
+
+-- a cursor has at most one bad token
+abbrev pub HasOneBad : Cursor → Type 0
+HasOneBad cursor = (a b : BadToken) → IsBad cursor a → IsBad cursor b → a ≡ b
+
+-- where a bad token comes, no token does
+abbrev pub HasNeverBoth : Cursor → Type 0
+HasNeverBoth cursor = (token : Token) (bad : BadToken) → IsNext cursor token → IsBad cursor bad → ⊥
+
+-- from a cursor on, there is one list of so many tokens, and it leads to one cursor
+abbrev pub HasOneTokenList : Cursor → Type 0
+HasOneTokenList cursor = (a b : List Token) (c d : Cursor) → Lexes cursor a c → Lexes cursor b d → length a ≡ length b → (a ≡ b) × (c ≡ d)

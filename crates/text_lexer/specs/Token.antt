@@ -62,14 +62,12 @@ mark_bytes Star = codes "*"
 mark_bytes Percent = codes "%"
 
 -- a letter, and then letters, digits and `_`
-abbrev pub IsWord : List ℕ → Type 0
-IsWord [] = ⊥
-IsWord (b ∷ bs) = IsTrue (is_letter b) × IsTrue (list_all is_name_byte bs)
+abbrev pub is_word : List ℕ → Bool
+is_word bs = is_letter (slice_index bs 0) && list_all is_name_byte bs
 
 -- one digit or more
-abbrev pub IsDigits : List ℕ → Type 0
-IsDigits [] = ⊥
-IsDigits (b ∷ bs) = IsTrue (is_digit b) × IsTrue (list_all is_digit bs)
+abbrev pub is_digits : List ℕ → Bool
+is_digits bs = is_digit (slice_index bs 0) && list_all is_digit bs
 
 -- `"`, `\`, `n` and `t`, which may stand behind a backslash in a text
 abbrev pub is_escape : ℕ → Bool
@@ -86,9 +84,8 @@ is_text_rest (b ∷ []) = b == 34
 is_text_rest (b ∷ c ∷ bs) = if b == 92 then is_escape c && is_text_rest bs else is_plain b && is_text_rest (c ∷ bs)
 
 -- a text in its quotation marks
-abbrev pub IsText : List ℕ → Type 0
-IsText [] = ⊥
-IsText (b ∷ bs) = (b ≡ 34) × IsTrue (is_text_rest bs)
+abbrev pub is_text : List ℕ → Bool
+is_text bs = slice_index bs 0 == 34 && is_text_rest (drop 1 bs)
 
 -- what a backslash and this byte mean: `n` a line feed, `t` a tab, and else the byte itself
 abbrev pub escape_value : ℕ → ℕ
@@ -107,17 +104,17 @@ content_of bs = unescaped (slice_range bs 1 (length bs - 1))
 -- Bytes that have the outer form of a token. The longest at a place is taken whole, and is then a token
 -- or a bad one: a word may be too long for a name, and digits may begin with a 0.
 pub data IsLexeme : List ℕ → Type 0 where
-  word : {bs : List ℕ} → IsWord bs → IsLexeme bs
-  digits : {bs : List ℕ} → IsDigits bs → IsLexeme bs
-  text : {bs : List ℕ} → IsText bs → IsLexeme bs
+  word : {bs : List ℕ} → IsTrue (is_word bs) → IsLexeme bs
+  digits : {bs : List ℕ} → IsTrue (is_digits bs) → IsLexeme bs
+  text : {bs : List ℕ} → IsTrue (is_text bs) → IsLexeme bs
   mark : {bs : List ℕ} (m : Mark) → bs ≡ mark_bytes m → IsLexeme bs
 
 -- The bytes are a token of this kind. The end of the text has no bytes and is no such token.
 abbrev pub IsToken : TokenKind → List ℕ → Type 0
-IsToken Name bs = IsWord bs × (length bs ≤ 64) × ((r : Reserved) → bs ≢ reserved_bytes r)
+IsToken Name bs = IsTrue (is_word bs) × (length bs ≤ 64) × ((r : Reserved) → bs ≢ reserved_bytes r)
 IsToken (ReservedWord r) bs = bs ≡ reserved_bytes r
-IsToken Number bs = IsDigits bs × (2 ≤ length bs → slice_index bs 0 ≢ 48)
-IsToken Text bs = IsText bs
+IsToken Number bs = IsTrue (is_digits bs) × (2 ≤ length bs → slice_index bs 0 ≢ 48)
+IsToken Text bs = IsTrue (is_text bs)
 IsToken (MarkSign m) bs = bs ≡ mark_bytes m
 IsToken End bs = ⊥
 

@@ -1,6 +1,7 @@
 //! Classes of bytes.
 
-ghost use Rattle.std.specs.Prelude.{◌≡◌, ◌<◌};
+ghost use Rattle.std.specs.Prelude.{◌≡◌, ◌≢◌, ◌<◌, ◌↔◌, ◌⊎◌, IsTrue};
+ghost use Rattle.std.specs.Bool.{IsFalse};
 ghost use Rattle.text_lexer.specs.Bytes.{is_blank, is_letter, is_digit, is_name_byte};
 ghost use Rattle.text_lexer.specs.Token.{escape_value, is_escape, is_plain};
 
@@ -38,6 +39,20 @@ pub fn is_plain(b: u8) -> bool
     ensures { result ≡ is_plain b }
 {
     b >= b' ' && b != b'"' && b != b'\\'
+}
+
+/// Whether the byte `b`, which stands in no comment, is neither a blank nor the start of a comment.
+pub fn begins_token(b: u8) -> bool
+    ensures { IsTrue result ↔ (IsFalse (is_blank b) × (b ≢ 35)) }
+{
+    !is_blank(b) && b != b'#'
+}
+
+/// Whether a comment goes on behind the byte `b`.
+pub fn comment_goes_on(in_comment: bool, b: u8) -> bool
+    ensures { IsTrue result ↔ ((IsTrue in_comment ⊎ b ≡ 35) × (b ≢ 10)) }
+{
+    (in_comment || b == b'#') && b != b'\n'
 }
 
 /// What a backslash before the byte `b` means.

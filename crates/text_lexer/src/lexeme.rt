@@ -1,9 +1,10 @@
 //! The token at the front of a text.
 
-ghost use Rattle.std.specs.Prelude.{◌≡◌, ◌<◌, ◌≤◌, length, take, slice_index, IsTrue, IfSome, IfNone};
+ghost use Rattle.std.specs.Prelude.{◌≡◌, [], ◌∷◌, ◌<◌, ◌≤◌, length, take, slice_index, IsTrue, ◌≢◌, IfSome, IfNone};
+ghost use Rattle.std.specs.Bool.{IsFalse};
 ghost use Rattle.std.specs.List.{prefix_len};
 ghost use Rattle.text_lexer.specs.Bytes.{is_letter, is_digit, is_name_byte};
-ghost use Rattle.text_lexer.specs.Token.{reserved_bytes, IsLongest, HasNoToken};
+ghost use Rattle.text_lexer.specs.Token.{reserved_bytes, mark_bytes, IsLongest, HasNoToken};
 
 use crate::bytes::{is_digit, is_escape, is_letter, is_name_byte, is_plain};
 use crate::token::{Mark, Reserved, TokenKind};
@@ -134,32 +135,59 @@ fn text(rest: &[u8]) -> Option<(TokenKind, usize)>
     None
 }
 
-/// The mark at the front, and how many bytes it has.
+/// The mark of these two bytes.
+fn pair(first: u8, second: u8) -> Option<Mark>
+    ensures found { IfSome result (λ m. first ∷ second ∷ [] ≡ mark_bytes m) }
+    ensures none { IfNone result ((m : Mark) → first ∷ second ∷ [] ≡ mark_bytes m → ⊥) }
+{
+    match (first, second) {
+        (b'<', b'/') => Some(Mark::ClosingTag),
+        (b'=', b'=') => Some(Mark::EqualTo),
+        (b'=', b'>') => Some(Mark::Arrow),
+        _ => None,
+    }
+}
+
+/// The mark of this byte alone.
+fn single(first: u8) -> Option<Mark>
+    ensures found { IfSome result (λ m. first ∷ [] ≡ mark_bytes m) }
+    ensures none { IfNone result ((m : Mark) → first ∷ [] ≡ mark_bytes m → ⊥) }
+{
+    match first {
+        b'=' => Some(Mark::Assign),
+        b'<' => Some(Mark::Less),
+        b'>' => Some(Mark::Greater),
+        b'/' => Some(Mark::Slash),
+        b'{' => Some(Mark::OpenBrace),
+        b'}' => Some(Mark::CloseBrace),
+        b'(' => Some(Mark::OpenParen),
+        b')' => Some(Mark::CloseParen),
+        b'[' => Some(Mark::OpenBracket),
+        b']' => Some(Mark::CloseBracket),
+        b'.' => Some(Mark::Dot),
+        b'+' => Some(Mark::Plus),
+        b'-' => Some(Mark::Minus),
+        b'*' => Some(Mark::Star),
+        b'%' => Some(Mark::Percent),
+        _ => None,
+    }
+}
+
 fn mark(rest: &[u8]) -> Option<(TokenKind, usize)>
     requires some { 0 < length rest.now }
+    requires no_letter { IsFalse (is_letter (slice_index rest.now 0)) }
+    requires no_digit { IsFalse (is_digit (slice_index rest.now 0)) }
+    requires not_quoted { slice_index rest.now 0 ≢ 34 }
     ensures found { IfSome result (λ f. IsLongest rest.now f.0 f.1) }
     ensures none { IfNone result (HasNoToken rest.now) }
 {
-    let mark = match rest {
-        [b'<', b'/', ..] => return Some((TokenKind::Mark(Mark::ClosingTag), 2)),
-        [b'=', b'=', ..] => return Some((TokenKind::Mark(Mark::EqualTo), 2)),
-        [b'=', b'>', ..] => return Some((TokenKind::Mark(Mark::Arrow), 2)),
-        [b'=', ..] => Mark::Assign,
-        [b'<', ..] => Mark::Less,
-        [b'>', ..] => Mark::Greater,
-        [b'/', ..] => Mark::Slash,
-        [b'{', ..] => Mark::OpenBrace,
-        [b'}', ..] => Mark::CloseBrace,
-        [b'(', ..] => Mark::OpenParen,
-        [b')', ..] => Mark::CloseParen,
-        [b'[', ..] => Mark::OpenBracket,
-        [b']', ..] => Mark::CloseBracket,
-        [b'.', ..] => Mark::Dot,
-        [b'+', ..] => Mark::Plus,
-        [b'-', ..] => Mark::Minus,
-        [b'*', ..] => Mark::Star,
-        [b'%', ..] => Mark::Percent,
-        _ => return None,
+    if let [first, second, ..] = rest {
+        if let Some(mark) = pair(*first, *second) {
+            return Some((TokenKind::Mark(mark), 2));
+        }
+    }
+    let Some(mark) = single(rest[0]) else {
+        return None;
     };
     Some((TokenKind::Mark(mark), 1))
 }

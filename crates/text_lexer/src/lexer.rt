@@ -1,14 +1,15 @@
 //! The lexer, which gives one token after another.
 
-ghost use Rattle.std.specs.Prelude.{◌≡◌, ◌≢◌, ℕ, ◌+◌, ◌-◌, ◌^◌, ◌<◌, ◌≤◌, length, slice_range, IfOk, IfErr, OnErr, SomeIff};
+ghost use Rattle.std.specs.Prelude.{◌≡◌, ◌≢◌, ℕ, ◌+◌, ◌-◌, ◌^◌, ◌<◌, ◌≤◌, length, ◌==◌, if◌then◌else◌, slice_range, IfOk, IfErr, OnErr, SomeIff, IsTrue, ◌↔◌};
 ghost use Rattle.std.specs.String.{string_bytes};
 ghost use Rattle.text_lexer.specs.Cursor.{start_of};
 ghost use Rattle.text_lexer.specs.Place.{IsPlace};
 ghost use Rattle.text_lexer.specs.Lexing.{Skips, IsNext, IsBad, after};
 ghost use Rattle.text_lexer.specs.Token.{IsTokenOf, decimal_value, content_of};
 
-use crate::bytes::{escape_value, is_blank};
+use crate::bytes::{begins_token, comment_goes_on};
 use crate::lexeme::lexeme;
+use crate::meaning::{bytes_of, decimal, unescape, without_quotes};
 use crate::token::{BadToken, Token, TokenKind};
 use std::alloc::Global;
 use std::marker::Model;
@@ -62,8 +63,22 @@ impl Place {
         }
     }
 
+    /// Whether no byte stands between `last`, the end of a token, and this place.
+    fn touches(self, last: Place) -> bool
+        ensures { IsTrue result ↔ ((0 < last.offset) × (self.offset ≡ last.offset)) }
+    {
+        last.offset > 0 && self.offset == last.offset
+    }
+
     /// The place behind the byte `b`, which stands here.
-    fn past(self, b: u8) -> Place {
+    fn past(self, b: u8) -> Place
+        requires offset_fits { self.offset + 1 < 2 ^ 64 }
+        requires line_fits { self.line + 1 < 2 ^ 32 }
+        requires column_fits { self.column + 1 < 2 ^ 32 }
+        ensures offset { result.offset ≡ self.offset + 1 }
+        ensures line { result.line ≡ (if b == 10 then self.line + 1 else self.line) }
+        ensures column { result.column ≡ (if b == 10 then 1 else self.column + 1) }
+    {
         let offset = self.offset + 1;
         if b == b'\n' {
             return Place {
@@ -112,12 +127,12 @@ impl<'a> Lexer<'a> {
         ensures takes_bytes { IfOk result (λ t. t.kind ≢ TokenKind.End → t.start < t.end) }
     {
         let start = self.skip();
-        let touches = self.place.offset > 0 && start.offset == self.place.offset;
-        let rest = &self.text.as_bytes()[start.offset..];
-        if rest.is_empty() {
+        let touches = start.touches(self.place);
+        let bytes = self.text.as_bytes();
+        if start.offset == bytes.len() {
             return Ok(start.token(TokenKind::End, 0, touches));
         }
-        let Some((kind, length)) = lexeme(rest) else {
+        let Some((kind, length)) = lexeme(&bytes[start.offset..]) else {
             return Err(BadToken {
                 line: start.line,
                 column: start.column,
@@ -136,8 +151,7 @@ impl<'a> Lexer<'a> {
         requires { IsTokenOf self.now.text token.now }
         ensures { result.now ≡ slice_range self.now.text token.now.start token.now.end }
     {
-        let text = self.text;
-        &text[token.start..token.end]
+        bytes_of(self.text, token)
     }
 
     /// The value of a number, or `None` where it is above `u32::MAX`.
@@ -147,7 +161,7 @@ impl<'a> Lexer<'a> {
         ensures { let value = decimal_value (slice_range self.now.text token.now.start token.now.end) in
             SomeIff result (value < 2 ^ 32) value }
     {
-        self.slice(token).parse().ok()
+        decimal(self.slice(token))
     }
 
     /// What a text says, with its escapes taken out.
@@ -157,15 +171,7 @@ impl<'a> Lexer<'a> {
         ensures { IfOk result (λ s. string_bytes s
             ≡ content_of (slice_range self.now.text token.now.start token.now.end)) }
     {
-        let mut content = String::new(alloc);
-        let mut rest = &self.text[token.start + 1..token.end - 1];
-        while let Some((plain, escape)) = rest.split_once('\\') {
-            content.push_str(plain)?;
-            content.push(escape_value(escape.as_bytes()[0]))?;
-            rest = &escape[1..];
-        }
-        content.push_str(rest)?;
-        Ok(content)
+        unescape(alloc, without_quotes(self.slice(token)))
     }
 
     /// The place of the next token, behind blanks and comments.
@@ -178,10 +184,10 @@ impl<'a> Lexer<'a> {
         let mut in_comment = false;
         while place.offset < bytes.len() {
             let b = bytes[place.offset];
-            if !in_comment && !is_blank(b) && b != b'#' {
+            if !in_comment && begins_token(b) {
                 break;
             }
-            in_comment = (in_comment || b == b'#') && b != b'\n';
+            in_comment = comment_goes_on(in_comment, b);
             place = place.past(b);
         }
         place

@@ -5,9 +5,12 @@
 #![tactic(auto)]
 
 mod bytes;
+mod laws;
 mod lexeme;
 mod lexer;
+mod meaning;
 mod token;
 
+pub use laws::{one_next, one_token_list};
 pub use lexer::Lexer;
 pub use token::{BadToken, Mark, Reserved, Token, TokenKind};

@@ -1,0 +1,6 @@
+pub mod Contents
+pub mod Lexemes
+pub mod Places
+pub mod Skipping
+pub mod Tokens
+pub mod Unique
