@@ -1,0 +1,7 @@
+//! The outside: where bytes come from and go to, when loads arrive, and what waits before each
+//! operation of a lane. Each is a trait, so that a caller hands in the real one or one in memory.
+#![tactic(auto)]
+
+mod traits;
+
+pub use traits::{Arrival, Failed, Gate, Loader, Sink, Source};
