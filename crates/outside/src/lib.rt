@@ -3,5 +3,7 @@
 #![tactic(auto)]
 
 mod traits;
+mod transfer;
 
 pub use traits::{Arrival, Failed, Gate, Loader, Sink, Source};
+pub use transfer::{ReadError, put, read_up_to};

@@ -1,0 +1,33 @@
+-- What follows from what reads and writes do to told bytes.
+use Rattle.std.proofs.Common.{◌≡◌, ℕ, ◌+◌, List, Option, Result, Ok, Err, OnErr, IfSome, None, Some, ◌++◌, [], ◌∙◌, ap, take, drop, sym, subst}
+use Rattle.std.proofs.Math.Seq.{take-add}
+use Rattle.std.proofs.KnownBytes.{Appends-trans, Consumes-trans, Consumes-nil, Consumes-kept}
+use Rattle.outside.specs.Bytes.{LosesFront, IsZeroAtEnd}
+use Rattle.std.specs.Io.KnownBytes.{Appends, Consumes, Keeps}
+
+-- a front was appended, and then a front of the rest
+pub Appends-more : (a b c : Option (List ℕ)) (bytes : List ℕ) (n m : ℕ) → Appends a b (take n bytes) → Appends b c (take m (drop n bytes)) → Appends a c (take (n + m) bytes)
+Appends-more a b c bytes n m p q = subst (Appends a c) (sym (take-add n m bytes)) (Appends-trans a b c _ _ p q)
+
+-- bytes that stay lost an empty front
+pub LosesFront-kept : (a b : Option (List ℕ)) → Keeps a b → LosesFront a b
+LosesFront-kept a b p = ([], Consumes-kept a a b [] (Consumes-nil a) p)
+
+-- a front was consumed, and then another was lost
+pub LosesFront-more : (a b c : Option (List ℕ)) (front : List ℕ) → Consumes a b front → LosesFront b c → LosesFront a c
+LosesFront-more a b c front p q = (front ++ q.0, Consumes-trans a b c front q.0 p q.1)
+
+-- what was consumed, and then a front of a buffer, is what the bytes have become
+pub Consumes-more : (a b c : Option (List ℕ)) (old new front : List ℕ) → Consumes a b old → Consumes b c front → new ≡ old ++ front → Consumes a c new
+Consumes-more a b c old new front p q e = subst (Consumes a c) (sym e) (Consumes-trans a b c old front p q)
+
+-- where a read gave none, all was consumed before
+pub whole_at_end : (a b : Option (List ℕ)) (old new front : List ℕ) (n : ℕ) → Consumes a b old → IsZeroAtEnd b n → n ≡ 0 → new ≡ old ++ front → front ≡ [] → IfSome a (λ held. new ≡ held)
+whole_at_end None b old new front n p z e f t = tt
+whole_at_end (Some x) None old new front n p z e f t = absurd p
+whole_at_end (Some x) (Some y) old new front n p z e f t = f ∙ ap (λ l. old ++ l) (t ∙ sym (z.0 e)) ∙ sym p
+
+-- what holds holds at a refusal
+pub OnErr-always : {T E P : Type 0} (r : Result T E) → P → OnErr r P
+OnErr-always (Ok x) p = tt
+OnErr-always (Err e) p = p
