@@ -1,5 +1,6 @@
 -- What follows from what reads and writes do to told bytes.
-use Rattle.std.proofs.Common.{◌≡◌, ℕ, ◌+◌, List, Option, Result, Ok, Err, OnErr, IfSome, None, Some, ◌++◌, [], ◌∙◌, ap, take, drop, sym, subst}
+use Rattle.std.proofs.Common.{◌≡◌, ℕ, ◌+◌, List, Option, Result, Ok, Err, OnErr, IfSome, None, Some, ◌++◌, [], ◌∙◌, ap, take, drop, length, sym, subst, ◌≤◌, arith}
+use Rattle.std.proofs.lemmas.List.{take-append-le, length-take-le, take-take, drop-drop, take-append-drop}
 use Rattle.std.proofs.Math.Seq.{take-add}
 use Rattle.std.proofs.KnownBytes.{Appends-trans, Consumes-trans, Consumes-nil, Consumes-kept}
 use Rattle.outside.specs.Bytes.{LosesFront, IsZeroAtEnd}
@@ -31,3 +32,16 @@ whole_at_end (Some x) (Some y) old new front n p z e f t = f ∙ ap (λ l. old +
 pub OnErr-always : {T E P : Type 0} (r : Result T E) → P → OnErr r P
 OnErr-always (Ok x) p = tt
 OnErr-always (Err e) p = p
+
+-- the front of a buffer that a front was copied to
+pub take-copied : (xs ys : List ℕ) (n : ℕ) → n ≤ length xs → take n (take n xs ++ ys) ≡ take n xs
+take-copied xs ys n h =
+    take-append-le n (take n xs) ys (omega (arith, length-take-le n xs h)) ∙ take-take n n xs (omega arith)
+
+-- bytes from a position on, by the front that was copied to a buffer and the bytes behind it
+pub held_is_copied : (bytes buffer copied : List ℕ) (position n : ℕ) → n ≤ length (drop position bytes) → copied ≡ take n (drop position bytes) → drop position bytes ≡ take n (copied ++ buffer) ++ drop (position + n) bytes
+held_is_copied bytes buffer copied position n h e =
+    let held = drop position bytes in
+    sym (take-append-drop n held)
+    ∙ ap (λ front. front ++ drop n held) (sym (ap (λ front. take n (front ++ buffer)) e ∙ take-copied held buffer n h))
+    ∙ ap (λ rest. take n (copied ++ buffer) ++ rest) (drop-drop n position bytes)

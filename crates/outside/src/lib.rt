@@ -2,8 +2,10 @@
 //! operation of a lane. Each is a trait, so that a caller hands in the real one or one in memory.
 #![tactic(auto)]
 
+mod memory;
 mod traits;
 mod transfer;
 
+pub use memory::{MemorySink, MemorySource};
 pub use traits::{Arrival, Failed, Gate, Loader, Sink, Source};
 pub use transfer::{ReadError, put, read_up_to};
