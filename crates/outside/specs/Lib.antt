@@ -2,3 +2,4 @@ pub mod Bytes
 pub mod Counts
 pub mod Prompt
 pub mod Memory
+pub mod StdStreams

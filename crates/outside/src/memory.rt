@@ -29,8 +29,12 @@ impl Model for MemorySource {
     ghost Value = { Supply };
 
     ghost view = { λ s. record {
-        held = drop s.position s.bytes.items; piece = s.piece; fails = s.fails.items;
-        calls = s.calls; faults = s.faults } };
+      held = drop s.position s.bytes.items;
+      piece = s.piece;
+      fails = s.fails.items;
+      calls = s.calls;
+      faults = s.faults;
+    } };
 
     ghost invariant = { λ s. (s.position ≤ vec_len s.bytes) × (0 < s.piece) };
 }
@@ -116,8 +120,13 @@ impl Model for MemorySink {
     ghost Value = { Store };
 
     ghost view = { λ s. record {
-        taken = s.taken.items; room = s.room; piece = s.piece; fails = s.fails.items;
-        calls = s.calls; faults = s.faults } };
+      taken = s.taken.items;
+      room = s.room;
+      piece = s.piece;
+      fails = s.fails.items;
+      calls = s.calls;
+      faults = s.faults;
+    } };
 
     ghost invariant = { λ s. (vec_len s.taken ≤ s.room) × (s.room ≤ vec_capacity s.taken) × (0 < s.piece) };
 }
@@ -134,7 +143,13 @@ impl MemorySink {
     ) -> Result<MemorySink, NoMemory>
         requires { 0 < piece }
         ensures { IfOk result (λ sink. sink ≡ record {
-            taken = []; room = room; piece = piece; fails = fails.items; calls = 0; faults = 0 }) }
+          taken = [];
+          room = room;
+          piece = piece;
+          fails = fails.items;
+          calls = 0;
+          faults = 0;
+        }) }
     {
         let taken = Vec::with_capacity(alloc, room)?;
         Ok(MemorySink {
