@@ -42,13 +42,8 @@ impl Loader for Delays {
     ghost is_prompt = { true };
 
     fn ask(&mut self, _: u32, _: Code, after: u32, asked: u32) -> Arrival
-        ensures not_yet { result ≡ Arrival.NotYet → Rose self.old self.new }
-        ensures failed { result ≡ Arrival.Failed → Rose 0 0 }
         ensures prompt { result ≡ prompt_arrival after asked }
-        ensures not_yets_counted { NeverFalls self.old self.new }
-        ensures faults_counted { NeverFalls 0 0 }
-
-        // Exactly how its count moves.
+        ensures counted { NeverFalls self.old self.new }
         ensures count { self.new ≡ (if nat_le after asked then self.old else counted self.old) }
     {
         if asked >= after {

