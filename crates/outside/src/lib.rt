@@ -13,3 +13,6 @@ pub use memory::{MemorySink, MemorySource};
 pub use std_streams::{StdSink, StdSource};
 pub use traits::{Arrival, Failed, Gate, Loader, Sink, Source};
 pub use transfer::{ReadError, put, read_up_to};
+
+#[cfg(test)]
+mod tests;
