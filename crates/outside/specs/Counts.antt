@@ -6,8 +6,8 @@ abbrev pub last_count : ℕ
 last_count = 2 ^ 64 - 1
 
 -- the count after one more, and after n more
-abbrev pub counted : ℕ → ℕ
-counted before = min (before + 1) last_count
+abbrev pub next_count : ℕ → ℕ
+next_count before = min (before + 1) last_count
 
 -- a count rose by at least n, or stands at its last value
 abbrev pub RoseBy : ℕ → ℕ → ℕ → Type 0

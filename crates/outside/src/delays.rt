@@ -2,9 +2,10 @@
 
 ghost use Rattle.std.specs.Prelude.{◌≡◌, ◌≤◌, if◌then◌else◌, nat_le, true};
 ghost use Rattle.std.specs.Bool.{OnTrue};
-ghost use Rattle.outside.specs.Counts.{NeverFalls, Rose, counted};
+ghost use Rattle.outside.specs.Counts.{NeverFalls, Rose, next_count};
 ghost use Rattle.outside.specs.Prompt.{prompt_arrival};
 
+use crate::counts::next_count;
 use crate::traits::{Arrival, Gate, Loader};
 use std::marker::Model;
 use values::Code;
@@ -44,12 +45,12 @@ impl Loader for Delays {
     fn ask(&mut self, _: u32, _: Code, after: u32, asked: u32) -> Arrival
         ensures prompt { result ≡ prompt_arrival after asked }
         ensures counted { NeverFalls self.old self.new }
-        ensures count { self.new ≡ (if nat_le after asked then self.old else counted self.old) }
+        ensures count { self.new ≡ (if nat_le after asked then self.old else next_count self.old) }
     {
         if asked >= after {
             return Arrival::Ready;
         }
-        self.not_yets = self.not_yets.saturating_add(1);
+        self.not_yets = next_count(self.not_yets);
         Arrival::NotYet
     }
 }

@@ -2,6 +2,7 @@
 //! operation of a lane. Each is a trait, so that a caller hands in the real one or one in memory.
 #![tactic(auto)]
 
+mod counts;
 mod delays;
 mod memory;
 mod std_streams;

@@ -6,6 +6,7 @@ ghost use Rattle.outside.specs.Bytes.{IsZeroAtEnd};
 ghost use Rattle.outside.specs.Counts.{NeverFalls, Rose};
 ghost use Rattle.outside.specs.Memory.{FailsNext, RefusesNext, after_failed_read, after_failed_write, after_read, after_write, given_count, taken_count};
 
+use crate::counts::next_count;
 use crate::traits::{Failed, Sink, Source};
 use std::alloc::Global;
 use std::marker::Model;
@@ -79,9 +80,9 @@ impl Source for MemorySource {
         ensures after_err { OnErr result (self.new ≡ after_failed_read self.old) }
         ensures err_into { OnErr result (into.new ≡ into.old) }
     {
-        self.calls = self.calls.saturating_add(1);
+        self.calls = next_count(self.calls);
         if is_among(self.calls, &self.fails) {
-            self.faults = self.faults.saturating_add(1);
+            self.faults = next_count(self.faults);
             return Err(Failed);
         }
         let rest = &self.bytes[self.position..];
@@ -169,7 +170,7 @@ impl MemorySink {
     fn refuses_next(&self) -> bool
         ensures { IsTrue result ↔ RefusesNext self.now }
     {
-        self.room <= self.taken.len() || is_among(self.calls.saturating_add(1), &self.fails)
+        self.room <= self.taken.len() || is_among(next_count(self.calls), &self.fails)
     }
 }
 
@@ -193,9 +194,9 @@ impl Sink for MemorySink {
         ensures after_err { OnErr result (self.new ≡ after_failed_write self.old) }
     {
         let is_refused = self.refuses_next();
-        self.calls = self.calls.saturating_add(1);
+        self.calls = next_count(self.calls);
         if is_refused {
-            self.faults = self.faults.saturating_add(1);
+            self.faults = next_count(self.faults);
             return Err(Failed);
         }
         let left = self.room - self.taken.len();

@@ -3,6 +3,7 @@
 ghost use Rattle.std.specs.Prelude.{◌≡◌, ◌<◌, ◌≤◌, ℕ};
 ghost use Rattle.outside.specs.StdStreams.{source_faults, source_inner, sink_faults, sink_inner};
 
+use crate::counts::next_count;
 use crate::traits::{Failed, Sink, Source};
 use std::io::{Read, Write};
 
@@ -33,7 +34,7 @@ impl<R: Read> Source for StdSource<R> {
         match self.inner.read(into) {
             Ok(count) => Ok(count),
             Err(_) => {
-                self.faults = self.faults.saturating_add(1);
+                self.faults = next_count(self.faults);
                 Err(Failed)
             }
         }
@@ -68,7 +69,7 @@ impl<W: Write> Sink for StdSink<W> {
         match self.inner.write(from) {
             Ok(count) if count > 0 => Ok(count),
             _ => {
-                self.faults = self.faults.saturating_add(1);
+                self.faults = next_count(self.faults);
                 Err(Failed)
             }
         }
