@@ -1,9 +1,9 @@
 -- What follows from what reads and writes do to told bytes.
-use Rattle.std.proofs.Common.{◌≡◌, ℕ, ◌+◌, List, Option, Result, Ok, Err, OnErr, IfSome, None, Some, ◌++◌, [], ◌∙◌, ap, take, drop, length, sym, subst, ◌≤◌, arith}
+use Rattle.std.proofs.Common.{◌≡◌, ℕ, ◌+◌, List, Option, Result, Ok, Err, OnErr, IfSome, None, Some, ◌++◌, [], ◌∙◌, ap, take, drop, length, sym, subst, ◌≤◌, arith, length-append}
 use Rattle.std.proofs.lemmas.List.{take-append-le, length-take-le, take-take, drop-drop, take-append-drop}
-use Rattle.std.proofs.Math.Seq.{take-add}
+use Rattle.std.proofs.Math.Seq.{take-add, take-append-add}
 use Rattle.std.proofs.KnownBytes.{Appends-trans, Consumes-trans, Consumes-nil, Consumes-kept}
-use Rattle.outside.specs.Bytes.{LosesFront, IsZeroAtEnd}
+use Rattle.outside.specs.Bytes.{AppendsPart, LosesFront, IsZeroAtEnd}
 use Rattle.std.specs.Io.KnownBytes.{Appends, Consumes, Keeps}
 
 -- a front was appended, and then a front of the rest
@@ -45,3 +45,14 @@ held_is_copied bytes buffer copied position n h e =
     sym (take-append-drop n held)
     ∙ ap (λ front. front ++ drop n held) (sym (ap (λ front. take n (front ++ buffer)) e ∙ take-copied held buffer n h))
     ∙ ap (λ rest. take n (copied ++ buffer) ++ rest) (drop-drop n position bytes)
+
+-- a text was appended whole, and then a part of the next: so was a part of any text that begins with the two
+pub AppendsPart-after : (a b c : Option (List ℕ)) (text next rest : List ℕ) → Appends a b text → AppendsPart b c next → AppendsPart a c (text ++ (next ++ rest))
+AppendsPart-after a b c text next rest p q =
+    let whole = text ++ (next ++ rest) in
+    let front : take (length text + q.0) whole ≡ text ++ take q.0 next =
+    take-append-add text (next ++ rest) q.0 ∙ ap (λ l. text ++ l) (take-append-le q.0 next rest (omega (arith, q.1))) in (
+      length text + q.0,
+      omega (arith, q.1, length-append text (next ++ rest), length-append next rest),
+      subst (Appends a c) (sym front) (Appends-trans a b c text (take q.0 next) p q.2),
+    )

@@ -1,5 +1,5 @@
 -- A source and a sink in memory, and what a call of each does.
-use Rattle.std.specs.Prelude.{ℕ, ◌-◌, ◌≤◌, List, ◌++◌, length, take, drop, min, ◌⊎◌, Contains}
+use Rattle.std.specs.Prelude.{ℕ, ◌-◌, ◌≤◌, List, ◌++◌, length, drop, min, ◌⊎◌, Contains}
 use Rattle.outside.specs.Counts.{next_count}
 
 -- bytes to give in pieces, the numbers of the calls that fail, and how many calls were made and failed
