@@ -5,7 +5,7 @@ use Rattle.std.specs.Prelude.{◌≡◌, ℕ, ◌+◌, ◌-◌, ◌^◌, ◌≤�
 abbrev pub last_count : ℕ
 last_count = 2 ^ 64 - 1
 
--- the count after one more, and after n more
+-- the count after one more
 abbrev pub next_count : ℕ → ℕ
 next_count before = min (before + 1) last_count
 

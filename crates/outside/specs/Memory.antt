@@ -25,7 +25,7 @@ abbrev pub after_failed_read : Supply → Supply
 after_failed_read s = record s { calls = next_count s.calls; faults = next_count s.faults }
 
 -- bytes taken in pieces, up to so much room, the numbers of the calls that fail, and how many calls were made and failed
-pub record Store : Type 0 where
+pub record Intake : Type 0 where
   pub taken : List ℕ
   pub room : ℕ
   pub piece : ℕ
@@ -34,15 +34,15 @@ pub record Store : Type 0 where
   pub faults : ℕ
 
 -- the next call is one of those that fail, or there is no room left
-abbrev pub RefusesNext : Store → Type 0
+abbrev pub RefusesNext : Intake → Type 0
 RefusesNext s = Contains s.fails (next_count s.calls) ⊎ (s.room ≤ length s.taken)
 
 -- how many of so many bytes the next call takes, where it doesn't fail
-abbrev pub taken_count : Store → ℕ → ℕ
+abbrev pub taken_count : Intake → ℕ → ℕ
 taken_count s offered = min s.piece (min offered (s.room - length s.taken))
 
-abbrev pub after_write : Store → List ℕ → Store
+abbrev pub after_write : Intake → List ℕ → Intake
 after_write s bytes = record s { taken = s.taken ++ bytes; calls = next_count s.calls }
 
-abbrev pub after_failed_write : Store → Store
+abbrev pub after_failed_write : Intake → Intake
 after_failed_write s = record s { calls = next_count s.calls; faults = next_count s.faults }

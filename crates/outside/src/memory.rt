@@ -113,9 +113,9 @@ pub struct MemorySink {
 
 impl Model for MemorySink {
     ghost use Rattle.std.specs.Prelude.{◌<◌, ◌≤◌, vec_capacity, vec_len};
-    ghost use Rattle.outside.specs.Memory.{Store};
+    ghost use Rattle.outside.specs.Memory.{Intake};
 
-    ghost Value = { Store };
+    ghost Value = { Intake };
 
     ghost view = { λ s. record {
       taken = s.taken.items;
