@@ -1,0 +1,5 @@
+pub mod Bytes
+pub mod Counts
+pub mod Prompt
+pub mod Memory
+pub mod StdStreams
