@@ -4,3 +4,4 @@ pub mod Places
 pub mod Skipping
 pub mod Tokens
 pub mod Unique
+pub mod TokenLists

@@ -3,3 +3,4 @@ pub mod Cursor
 pub mod Lexing
 pub mod Place
 pub mod Token
+pub mod Tokens

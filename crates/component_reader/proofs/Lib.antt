@@ -1,0 +1,4 @@
+pub mod Right
+pub mod Given
+pub mod Effort
+pub mod Steps

@@ -1,0 +1,8 @@
+-- The names that are seen at a place.
+use Rattle.std.specs.Prelude.{ℕ, ◌==◌, Option, Some, None, is_some, if◌then◌else◌, List, [], ◌∷◌}
+use Rattle.component_reader.specs.declared.scope.Declared.{Declared}
+
+-- the id that a name was last declared with
+abbrev pub id_of : ℕ → List Declared → Option ℕ
+id_of name [] = None
+id_of name (d ∷ seen) = if d.name == name then Some d.id else id_of name seen
