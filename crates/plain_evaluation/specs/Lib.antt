@@ -1,0 +1,3 @@
+pub mod Scratch
+pub mod Shown
+pub mod Page
