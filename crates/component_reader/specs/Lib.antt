@@ -1,3 +1,4 @@
+pub mod Why
 pub mod Grammar
 pub mod Ahead
 pub mod Scope

@@ -1,5 +1,8 @@
 //! Why a text is refused, and where.
 
+ghost use Rattle.std.specs.Prelude.{◌≡◌};
+ghost use Rattle.component_reader.specs.Why.{number_of};
+
 use std::alloc::{AllocError, AllocFailed};
 
 /// Which limit a text is over.
@@ -26,6 +29,27 @@ pub enum Why {
     TooLarge(Count),
     TooManyLanes,
     UnclosedTag,
+}
+
+impl Why {
+    /// The number of the reason, as it is printed.
+    pub fn number(self) -> u8
+        ensures { result ≡ number_of self }
+    {
+        match self {
+            Why::BadUtf8 => 1,
+            Why::BadToken => 2,
+            Why::Unexpected => 3,
+            Why::UnknownName => 4,
+            Why::NameTaken => 5,
+            Why::WrongPlace => 6,
+            Why::NumberRange => 7,
+            Why::TooDeep => 8,
+            Why::TooLarge(_) => 9,
+            Why::TooManyLanes => 10,
+            Why::UnclosedTag => 11,
+        }
+    }
 }
 
 /// A place in the input: its line, and the number of its byte in that line, both from 1.

@@ -12,6 +12,7 @@ use values::NoMemory;
 pub fn page_bytes(alloc: Global, component: &Component) -> Result<Vec<u8>, NoMemory>
     ensures { IfOk result (λ bytes. bytes.items ≡ page_of component.now) }
 {
-    let _ = (alloc, component);
+    let _ = alloc;
+    let _ = component;
     Err(NoMemory)
 }

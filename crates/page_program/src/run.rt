@@ -1,0 +1,71 @@
+//! The run of the program.
+
+ghost use Rattle.std.specs.Prelude.{◌≡◌, ◌≢◌, ◌≤◌, ℕ, List, length, IfOk, IfErr, IfSome, Err};
+ghost use Rattle.std.specs.Io.KnownBytes.{Appends};
+ghost use Rattle.component_reader.specs.declared.component.Component.{Component};
+ghost use Rattle.component_reader.specs.declared.refusal.Place.{Place};
+ghost use Rattle.outside.specs.Bytes.{AppendsPart};
+ghost use Rattle.outside.specs.Counts.{Rose};
+ghost use Rattle.outside.specs.declared.transfer.ReadError.{ReadError};
+ghost use Rattle.plain_evaluation.specs.Page.{page_of};
+ghost use Rattle.page_program.specs.declared.finish.Outcome.{Outcome};
+ghost use Rattle.page_program.specs.Outcome.{status_of, line_of};
+ghost use Rattle.page_program.specs.Run.{Reading, ReadsComponent, HasNoComponent, IsDue, first_place};
+
+use crate::answer::answer;
+use crate::finish::{Finish, Outcome};
+use component_reader::MAX_BYTES;
+use outside::{Gate, Loader, ReadError, Sink, Source, put, read_up_to};
+use std::alloc::Global;
+use values::NoMemory;
+
+/// The outcome of the input, and the text that it writes. All memory that the output needs is taken here.
+fn prepared<S: Source>(alloc: Global, source: &mut S) -> Result<(Outcome, Vec<u8>), ReadError>
+    ensures due { IfOk result (λ p. IsDue (record { held = S.held source.old; left = S.held source.new; faults = S.faults source.old; faults_after = S.faults source.new }) p.0 p.1.items) }
+    ensures failed { result ≡ Err ReadError.Failed → Rose (S.faults source.old) (S.faults source.new) }
+{
+    let bytes = read_up_to(alloc, source, MAX_BYTES)?;
+    match answer(alloc, &bytes) {
+        Ok(found) => Ok(found),
+        Err(NoMemory) => Err(ReadError::NoMemory),
+    }
+}
+
+/// Writes the text of an outcome, which ends the run.
+fn written<K: Sink>(sink: &mut K, outcome: Outcome, text: &[u8]) -> Finish
+    ensures status { result.status ≡ status_of result.outcome }
+    ensures whole { result.outcome ≢ Outcome.WriteFault → (result.outcome ≡ outcome) × Appends (K.taken sink.old) (K.taken sink.new) text.now }
+    ensures write_fault { result.outcome ≡ Outcome.WriteFault → outcome ≢ Outcome.WriteFault → Rose (K.faults sink.old) (K.faults sink.new) × AppendsPart (K.taken sink.old) (K.taken sink.new) text.now }
+{
+    match put(sink, text) {
+        Ok(()) => Finish::new(outcome),
+        Err(_) => Finish::new(Outcome::WriteFault),
+    }
+}
+
+/// Reads a component text from the source, and writes its page to the sink. The words, the loader and the
+/// gate are not looked at yet.
+pub fn page<R, S: Source, K: Sink, L: Loader, G: Gate>(
+    _rt: &R,
+    alloc: Global,
+    _words: &[String],
+    source: &mut S,
+    sink: &mut K,
+    _loader: &mut L,
+    _gate: &G,
+) -> Finish
+    ensures status { result.status ≡ status_of result.outcome }
+    // What is written, but for a failed write, is the text of the outcome, which was due.
+    ensures written { let reading : Reading = record { held = S.held source.old; left = S.held source.new; faults = S.faults source.old; faults_after = S.faults source.new } in
+        result.outcome ≢ Outcome.WriteFault → (text : List ℕ) × IsDue reading result.outcome text × Appends (K.taken sink.old) (K.taken sink.new) text }
+    // A failed write takes the place of an outcome that was due, and leaves a part of its text.
+    ensures write_fault { let reading : Reading = record { held = S.held source.old; left = S.held source.new; faults = S.faults source.old; faults_after = S.faults source.new } in
+        result.outcome ≡ Outcome.WriteFault → Rose (K.faults sink.old) (K.faults sink.new)
+        × (due : Outcome) × (text : List ℕ) × IsDue reading due text × AppendsPart (K.taken sink.old) (K.taken sink.new) text }
+{
+    match prepared(alloc, source) {
+        Ok((outcome, text)) => written(sink, outcome, &text),
+        Err(ReadError::Failed) => written(sink, Outcome::ReadFault, b"read fault\n"),
+        Err(ReadError::NoMemory) => written(sink, Outcome::NoMemory, b"no memory\n"),
+    }
+}
