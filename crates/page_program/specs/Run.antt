@@ -18,10 +18,9 @@ pub record Reading : Type 0 where
   pub faults : ℕ
   pub faults_after : ℕ
 
--- The bytes of the source are the text of the component, and it was read to its end, where it tells its bytes.
-pub record ReadsComponent (reading : Reading) (component : Component) : Type 0 where
-  pub text : IfSome reading.held (λ bytes. IsComponent bytes component)
-  pub whole : IfSome reading.held (λ bytes. IsAtEnd reading.left)
+-- the bytes of the source are the text of the component, and it was read to its end
+abbrev pub ReadsComponent : Reading → Component → Type 0
+ReadsComponent reading component = IfSome reading.held (λ bytes. IsComponent bytes component × IsAtEnd reading.left)
 
 -- the bytes of the source are the text of no component
 abbrev pub HasNoComponent : Reading → Type 0
