@@ -1,12 +1,12 @@
 //! Laws of the definitions that the crate's contracts cite. Each is the contract of a function that
 //! does nothing.
-ghost use Rattle.std.specs.Prelude.{◌≡◌, ◌⊎◌, ◌↔◌, ℕ, List, [], ◌∷◌, Some, false, pos, negsuc, take, slice_get, Contains};
+ghost use Rattle.std.specs.Prelude.{◌≡◌, ◌⊎◌, ◌↔◌, ◌≤◌, ℕ, List, [], ◌∷◌, Some, false, pos, negsuc, take, slice_get, length, Contains};
 ghost use Rattle.values.specs.declared.code.Code.{Code as CodeValue};
 ghost use Rattle.values.specs.declared.expr.Expr.{Expr as ExprValue};
 ghost use Rattle.values.specs.Evaluation.{truth, combined, value_of, reads_of};
 ghost use Rattle.values.specs.Attempt.{Agrees, known_by, answer, tried_of};
 ghost use Rattle.values.specs.Packing.{packed, IsValue};
-ghost use Rattle.values.specs.Plan.{rows_in, IsLawful};
+ghost use Rattle.values.specs.Plan.{rows_in, names_of, IsLawful};
 ghost use Rattle.values.specs.PlanRows.{plan_of, signal_in, reader, root, inside};
 ghost use Rattle.values.specs.Texts.{IsTable};
 
@@ -21,6 +21,11 @@ pub fn evaluation_is_by_reads()
 /// It reads no row that the expression does not name.
 pub fn reads_are_named()
     ensures { (e : ExprValue) (s : ℕ → CodeValue) (row : ℕ) → Contains (reads_of e s) row → Contains (rows_in e) row }
+{}
+
+/// It reads no more rows than the distinct ones that the expression names.
+pub fn reads_fit_the_names()
+    ensures { (e : ExprValue) (s : ℕ → CodeValue) → length (reads_of e s) ≤ length (names_of e) }
 {}
 
 /// An attempt that knows the first n rows that are read needs the row at n, and with all of them
