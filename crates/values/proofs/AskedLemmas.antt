@@ -6,7 +6,7 @@ use Rattle.values.specs.Evaluation.{value_of, distinct, reads_of, evaluation}
 use Rattle.values.specs.Attempt.{known_value, known_by, Agrees, first_unknown, answer, tried_of}
 
 -- the row is one of these
-abbrev has : ℕ → List ℕ → Bool
+abbrev pub has : ℕ → List ℕ → Bool
 has r [] = false
 has r (x ∷ xs) = (x == r) || has r xs
 
@@ -23,11 +23,11 @@ Agrees-known_by s (x ∷ rows) r = by (x == r) refl (Agrees-known_by s rows r)
     by false is rest = rest
 
 -- no row is one of the first list, nor stands twice
-abbrev Fresh : List ℕ → List ℕ → Type 0
+abbrev pub Fresh : List ℕ → List ℕ → Type 0
 Fresh xs [] = Unit {0}
 Fresh xs (y ∷ ys) = (has y xs ≡ false) × Fresh (y ∷ xs) ys
 
-Fresh-fewer : (xs more ys : List ℕ) → ((r : ℕ) → has r xs ≡ true → has r more ≡ true) → Fresh more ys → Fresh xs ys
+pub Fresh-fewer : (xs more ys : List ℕ) → ((r : ℕ) → has r xs ≡ true → has r more ≡ true) → Fresh more ys → Fresh xs ys
 Fresh-fewer xs more [] within h = tt
 Fresh-fewer xs more (y ∷ ys) within h =
     (by (has y xs) refl, Fresh-fewer (y ∷ xs) (y ∷ more) ys (λ r g. let w = within r in grind (arith, w, g)) h.1)
@@ -47,7 +47,7 @@ Fresh-filter xs row (y ∷ rows) h = by (y == row) refl (Fresh-filter (y ∷ xs)
     by true is rest = Fresh-fewer (row ∷ xs) (row ∷ y ∷ xs) kept (λ r g. grind (arith, g)) rest
     by false is rest = (let old = h.0 in grind (arith, old, is), Fresh-fewer (y ∷ row ∷ xs) (row ∷ y ∷ xs) kept (λ r g. grind (arith, g)) rest)
 
-Fresh-distinct : (rows : List ℕ) → Fresh [] (distinct rows)
+pub Fresh-distinct : (rows : List ℕ) → Fresh [] (distinct rows)
 Fresh-distinct [] = tt
 Fresh-distinct (row ∷ rows) = (refl, Fresh-filter [] row (distinct rows) (Fresh-distinct rows))
 

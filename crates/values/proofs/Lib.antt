@@ -5,3 +5,4 @@ pub mod ReadsLemmas
 pub mod AskedLemmas
 pub mod PlanLemmas
 pub mod PlanRowsLemmas
+pub mod NamesLemmas

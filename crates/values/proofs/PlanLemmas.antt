@@ -62,7 +62,7 @@ readings_named : (e : Expr) → ReadsNamed e
 readings_named = ind-Expr ReadsNamed (λ x y is. subst (λ z. ReadsNamed (roll-Expr z)) is (by_form y))
 
 -- the place of an element, one place further on
-further : (x r : ℕ) (xs : List ℕ) → Contains xs r → Contains (x ∷ xs) r
+pub further : (x r : ℕ) (xs : List ℕ) → Contains xs r → Contains (x ∷ xs) r
 further x r xs c = (suc c.0, omega (arith, c.1), c.2)
 
 pub Contains-from_cons : (x r : ℕ) (xs : List ℕ) → Contains (x ∷ xs) r → (x ≡ r) ⊎ Contains xs r

@@ -8,6 +8,7 @@ use Rattle.values.specs.declared.plan.Kind.TheVariants.{Effect}
 use Rattle.values.specs.declared.plan.PlanNode.{PlanNode}
 use Rattle.values.specs.declared.plan.PlanOwner.{PlanOwner}
 use Rattle.values.specs.declared.plan.Plan.{Plan}
+use Rattle.values.specs.Evaluation.{distinct}
 
 -- one form of expression, with the rows that its parts name in their places
 abbrev pub rows_step : Expr-F (List ℕ) → List ℕ
@@ -19,6 +20,10 @@ rows_step (level.If c a b) = c ++ a ++ b
 -- the rows that an expression names, in the text's order, whether or not an evaluation reads them
 unfoldable pub rows_in : Expr → List ℕ
 rows_in = fold-Expr (List ℕ) rows_step
+
+-- the distinct rows that it names
+abbrev pub names_of : Expr → List ℕ
+names_of e = distinct (rows_in e)
 
 -- the row comes before the node, and is no effect
 abbrev pub MayRead : List PlanNode → ℕ → ℕ → Type 0

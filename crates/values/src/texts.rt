@@ -79,7 +79,8 @@ impl Texts {
     pub fn add(&mut self, text: &str) -> Result<u32, TextRefusal>
         ensures table { IfOk result (λ index. self.new ≡ with_text text.now self.old) }
         ensures index { IfOk result (λ index. index_of text.now self.new ≡ Some index) }
-        ensures full { (result ≡ Err TextRefusal.Full) ↔ ((index_of text.now self.old ≡ None) × (length self.old ≡ 65536)) }
+        ensures full { (result ≡ Err TextRefusal.Full)
+            ↔ ((index_of text.now self.old ≡ None) × (length self.old ≡ 65536)) }
         ensures unchanged { OnErr result (self.new ≡ self.old) }
     {
         if let Some(index) = self.find(text) {

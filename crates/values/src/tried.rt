@@ -19,7 +19,8 @@ pub enum Tried {
 /// its first place counts. Asked again with the row that it needs, each time, it ends with the
 /// value.
 pub fn attempt(expr: &Expr, known: &[(u32, Code)]) -> Tried
-    ensures { (values : ℕ → CodeValue) → Agrees values known.now → result ≡ tried_of expr.now known.now values }
+    ensures { (values : ℕ → CodeValue) → Agrees values known.now →
+        result ≡ tried_of expr.now known.now values }
 {
     match evaluate(expr, known) {
         Ok(code) => Tried::Done(code),
@@ -34,7 +35,9 @@ struct Missing {
 }
 
 fn evaluate(expr: &Expr, known: &[(u32, Code)]) -> Result<Code, Missing>
-    ensures { (values : ℕ → CodeValue) → Agrees values known.now → MatchResult result (λ code. tried_of expr.now known.now values ≡ Tried.Done code) (λ missing. tried_of expr.now known.now values ≡ Tried.Needs missing.row) }
+    ensures { (values : ℕ → CodeValue) → Agrees values known.now →
+        let tried = tried_of expr.now known.now values in
+        MatchResult result (λ code. tried ≡ Tried.Done code) (λ missing. tried ≡ Tried.Needs missing.row) }
 {
     match expr {
         Expr::Lit(code) => Ok(*code),
