@@ -135,13 +135,13 @@ mark_kind End bs m e t = absurd t
 
 one_kind : (j k : TokenKind) (bs : List ℕ) → IsToken j bs → IsToken k bs → j ≡ k
 one_kind Name k bs s t = elim (word_kind k bs (word_first bs s.0) t) [
-    | inl is ↦ sym is
-    | inr other ↦ absurd (s.2 other.0 other.2)
-  ]
+  | inl is ↦ sym is
+  | inr other ↦ absurd (s.2 other.0 other.2)
+]
 one_kind (ReservedWord r) k bs s t = elim (word_kind k bs (rw s (word_first (reserved_bytes r) (reserved_word r))) t) [
-    | inl is ↦ let name : IsToken Name bs = subst (λ v. IsToken v bs) is t in absurd (name.2 r s)
-    | inr other ↦ ap ReservedWord (one_reserved r other.0 (sym s ∙ other.2)) ∙ sym other.1
-  ]
+  | inl is ↦ let name : IsToken Name bs = subst (λ v. IsToken v bs) is t in absurd (name.2 r s)
+  | inr other ↦ ap ReservedWord (one_reserved r other.0 (sym s ∙ other.2)) ∙ sym other.1
+]
 one_kind Number k bs s t = sym (digits_kind k bs (digits_first bs s.0) t)
 one_kind Text k bs s t = sym (text_kind k bs (text_first bs s) t)
 one_kind (MarkSign m) k bs s t = sym (mark_kind k bs m s t)
@@ -157,18 +157,18 @@ one_longest rest j k m n s t =
 -- no token but the end of the text stands at its end
 end_alone : (text : List ℕ) (token : Token) → IsTokenOf text token → token.start ≡ length text → token.kind ≡ End
 end_alone text token t e = elim (end_or_not token.kind) [
-    | inl is ↦ is
-    | inr is ↦
+  | inl is ↦ is
+  | inr is ↦
       let x = t.longest is in
       let some = longest_some (drop token.start text) token.kind (token.end - token.start) x in
       let size = length-drop token.start text in
       let within = x.within in
       absurd (omega arith)
-  ]
+]
 
 one_stands : (text : List ℕ) (a b : Token) → a.start ≡ b.start → IsTokenOf text a → IsTokenOf text b → (a.kind ≡ b.kind) × (a.end ≡ b.end)
 one_stands text a b e s t = elim (end_or_not a.kind) [
-    | inl is ↦
+  | inl is ↦
       let at = s.last is in
       let other = end_alone text b t (sym e ∙ at) in
       let s1 = s.ordered in
@@ -176,17 +176,17 @@ one_stands text a b e s t = elim (end_or_not a.kind) [
       let t1 = t.ordered in
       let t2 = t.within in
       (is ∙ sym other, omega arith)
-    | inr is ↦ elim (end_or_not b.kind) [
-      | inl end ↦ absurd (is (end_alone text a s (e ∙ t.last end)))
-      | inr no_end ↦
+  | inr is ↦ elim (end_or_not b.kind) [
+    | inl end ↦ absurd (is (end_alone text a s (e ∙ t.last end)))
+    | inr no_end ↦
         let x : IsLongest (drop b.start text) a.kind (a.end - a.start) = subst (λ v. IsLongest (drop v text) a.kind (a.end - a.start)) e (s.longest is) in
         let same = one_longest (drop b.start text) a.kind b.kind (a.end - a.start) (b.end - b.start) x (t.longest no_end) in
         let sizes = same.0 in
         let s1 = s.ordered in
         let t1 = t.ordered in
         (same.1, omega arith)
-    ]
   ]
+]
 
 same_tests : (a b : Bool) (P : Type 0) → ((a ≡ true) ↔ P) → ((b ≡ true) ↔ P) → a ≡ b
 same_tests true b P s t = sym (t.1 (s.0 refl))

@@ -8,11 +8,9 @@ pub fn one_next()
     ensures one_token { (cursor : Cursor) → HasOneNext cursor }
     ensures one_bad { (cursor : Cursor) → HasOneBad cursor }
     ensures never_both { (cursor : Cursor) → HasNeverBoth cursor }
-{
-}
+{}
 
 /// A text has one token list.
 pub fn one_token_list()
     ensures { (cursor : Cursor) → HasOneTokenList cursor }
-{
-}
+{}

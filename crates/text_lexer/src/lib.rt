@@ -14,3 +14,6 @@ mod token;
 pub use laws::{one_next, one_token_list};
 pub use lexer::Lexer;
 pub use token::{BadToken, Mark, Reserved, Token, TokenKind};
+
+#[cfg(test)]
+mod tests;
