@@ -89,7 +89,7 @@ unescaped_more content wide rest plain [] more whole ch e none some m c w h = ab
 unescaped_more content wide rest plain (b ∷ bs) more whole ch e none some m c w h =
     let is = unescaped_first plain bs b none in
     let was : content ++ (plain ++ escape_value b ∷ unescaped bs) ≡ whole = ap (λ v. content ++ v) (sym is ∙ sym (ap unescaped e)) ∙ h in
-    rw (w, c, m, append_assoc, append_assoc) was
+    rw (w, c, m) (simp append_assoc was)
 
 pub decimal_some : {E : Type 0} → (bs : List ℕ) (r : Result ℕ E) → 0 < length bs → OkIff r ((0 < length bs) × (decimal_value bs < 2 ^ 32)) (decimal_value bs) → SomeIff (result_ok r) (decimal_value bs < 2 ^ 32) (decimal_value bs)
 decimal_some bs (Ok x) some h = (h.0.1, h.1)

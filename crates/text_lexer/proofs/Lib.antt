@@ -3,4 +3,5 @@ pub mod Lexemes
 pub mod Places
 pub mod Skipping
 pub mod Tokens
+pub mod Total
 pub mod Unique

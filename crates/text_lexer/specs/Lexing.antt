@@ -75,6 +75,10 @@ HasOneBad cursor = (a b : BadToken) → IsBad cursor a → IsBad cursor b → a 
 abbrev pub HasNeverBoth : Cursor → Type 0
 HasNeverBoth cursor = (token : Token) (bad : BadToken) → IsNext cursor token → IsBad cursor bad → ⊥
 
+-- at a cursor within its text, a token or a bad one comes next
+abbrev pub HasSomeNext : Cursor → Type 0
+HasSomeNext cursor = cursor.at ≤ length cursor.text → ((token : Token) × IsNext cursor token) ⊎ ((bad : BadToken) × IsBad cursor bad)
+
 -- from a cursor on, there is one list of so many tokens, and it leads to one cursor
 abbrev pub HasOneTokenList : Cursor → Type 0
 HasOneTokenList cursor = (a b : List Token) (c d : Cursor) → Lexes cursor a c → Lexes cursor b d → length a ≡ length b → (a ≡ b) × (c ≡ d)
