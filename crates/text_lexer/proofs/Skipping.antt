@@ -1,5 +1,5 @@
 -- What the loop over blanks and comments knows.
-use Rattle.std.proofs.Common.{◌≡◌, ℕ, ◌+◌, ◌<◌, ◌≤◌, Bool, true, false, eqb, eqb-true, List, length, get_or, ◌⊎◌, inl, inr, refl, sym, ◌∙◌, subst, arith}
+use Rattle.std.proofs.Common.{◌≡◌, ℕ, ◌+◌, ◌<◌, ◌≤◌, Bool, true, false, eqb-true, List, length, get_or, ◌⊎◌, inl, inr, refl, sym, ◌∙◌, subst, arith}
 use Rattle.std.proofs.lemmas.Bool.{cases_lt, cases_eq, eq-eqb, false≢true, cases_Bool}
 use Rattle.text_lexer.specs.Bytes.{is_blank, is_hash}
 use Rattle.text_lexer.specs.Lexing.{IsInComment, IsBetweenTokens, Skips}

@@ -1,5 +1,5 @@
 -- The bytes of a token: none is a line feed, and the first and the last are ASCII.
-use Rattle.std.proofs.Common.{◌≡◌, ◌≢◌, ℕ, zero, suc, ◌+◌, ◌-◌, ◌<◌, ◌≤◌, Bool, true, false, not, ◌&&◌, cond, eqb, ltb, ltb-true, eqb-true, List, [], ◌∷◌, length, take, drop, get_or, add-zero, leb-true, inl, inr, ◌⊎◌, refl, sym, ◌∙◌, ap, subst, arith}
+use Rattle.std.proofs.Common.{◌≡◌, ℕ, zero, suc, ◌+◌, ◌-◌, ◌<◌, ◌≤◌, Bool, true, false, not, ◌&&◌, eqb, ltb, ltb-true, eqb-true, List, [], ◌∷◌, length, take, drop, get_or, add-zero, leb-true, inl, inr, ◌⊎◌, refl, sym, ◌∙◌, ap, subst, arith}
 use Rattle.std.proofs.lemmas.Bool.{cases_Bool, cond-true, cond-false, and_parts, and_from, false≢true, ne_eqb}
 use Rattle.std.proofs.lemmas.Str.{IsCharBoundary-end, IsCharBoundary-before_ascii, IsCharBoundary-after_ascii}
 use Rattle.std.specs.Str.{IsUtf8, IsCharBoundary}

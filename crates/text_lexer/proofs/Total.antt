@@ -1,5 +1,5 @@
 -- At each cursor something comes next.
-use Rattle.std.proofs.Common.{◌≡◌, ◌↔◌, ℕ, zero, suc, ◌+◌, ◌-◌, ◌<◌, ◌≤◌, Bool, true, false, not, ◌&&◌, ◌||◌, eqb, eqb-true, ltb, ltb-true, List, [], ◌∷◌, length, take, drop, get_or, inl, inr, ◌⊎◌, refl, sym, ◌∙◌, ap, subst, arith}
+use Rattle.std.proofs.Common.{◌≡◌, ◌↔◌, ℕ, zero, suc, ◌+◌, ◌-◌, ◌<◌, Bool, true, false, not, ◌&&◌, ◌||◌, eqb, eqb-true, ltb, ltb-true, List, [], ◌∷◌, length, take, drop, get_or, inl, inr, ◌⊎◌, refl, sym, ◌∙◌, ap, subst, arith}
 use Rattle.std.proofs.lemmas.Bool.{cases_Bool, cases_eq, cases_lt, and_parts, and_from, or_cases, or_left, or_right, not-true, not_from_false, eq-eqb, eqb-false, ne_eqb, lt-ltb, false≢true}
 use Rattle.std.proofs.lemmas.List.{length-drop}
 use Rattle.std.specs.List.{prefix_len}
@@ -55,28 +55,28 @@ TokenOrNot rest = ((kind : TokenKind) × (n : ℕ) × IsLongest rest kind n) ⊎
 text_from : (left : ℕ) (rest : List ℕ) (i : ℕ) → IsTextFrom rest i → 0 < i → get_or rest 0 0 ≡ 34 → i + left ≡ length rest → TokenOrNot rest
 text_from zero rest i t some opens e = inr (no_closing rest i t opens (omega arith))
 text_from (suc zero) rest i t some opens e = elim (cases_eq (get_or rest i 0) 34) [
-    | inl closes ↦ inl (Text, i + 1, text_token rest i t some (omega arith) opens closes)
-    | inr no_close ↦ elim (cases_eq (get_or rest i 0) 92) [
-      | inl slash ↦ inr (no_escape_at_end rest i t opens (omega arith) (omega arith) slash)
-      | inr no_slash ↦ elim (cases_Bool (is_plain (get_or rest i 0))) [
-        | inl plain ↦ text_from zero rest (i + 1) (text_past_plain rest i t (omega arith) plain) (omega arith) opens (omega arith)
-        | inr bad ↦ inr (no_text_byte rest i t opens (omega arith) bad no_close no_slash)
-      ]
+  | inl closes ↦ inl (Text, i + 1, text_token rest i t some (omega arith) opens closes)
+  | inr no_close ↦ elim (cases_eq (get_or rest i 0) 92) [
+    | inl slash ↦ inr (no_escape_at_end rest i t opens (omega arith) (omega arith) slash)
+    | inr no_slash ↦ elim (cases_Bool (is_plain (get_or rest i 0))) [
+      | inl plain ↦ text_from zero rest (i + 1) (text_past_plain rest i t (omega arith) plain) (omega arith) opens (omega arith)
+      | inr bad ↦ inr (no_text_byte rest i t opens (omega arith) bad no_close no_slash)
     ]
   ]
+]
 text_from (suc (suc left)) rest i t some opens e = elim (cases_eq (get_or rest i 0) 34) [
-    | inl closes ↦ inl (Text, i + 1, text_token rest i t some (omega arith) opens closes)
-    | inr no_close ↦ elim (cases_eq (get_or rest i 0) 92) [
-      | inl slash ↦ elim (cases_Bool (is_escape (get_or rest (i + 1) 0))) [
-        | inl escape ↦ text_from left rest (i + 2) (text_past_escape rest i t (omega arith) slash escape) (omega arith) opens (omega arith)
-        | inr bad ↦ inr (no_escape rest i t opens (omega arith) slash bad)
-      ]
-      | inr no_slash ↦ elim (cases_Bool (is_plain (get_or rest i 0))) [
-        | inl plain ↦ text_from (suc left) rest (i + 1) (text_past_plain rest i t (omega arith) plain) (omega arith) opens (omega arith)
-        | inr bad ↦ inr (no_text_byte rest i t opens (omega arith) bad no_close no_slash)
-      ]
+  | inl closes ↦ inl (Text, i + 1, text_token rest i t some (omega arith) opens closes)
+  | inr no_close ↦ elim (cases_eq (get_or rest i 0) 92) [
+    | inl slash ↦ elim (cases_Bool (is_escape (get_or rest (i + 1) 0))) [
+      | inl escape ↦ text_from left rest (i + 2) (text_past_escape rest i t (omega arith) slash escape) (omega arith) opens (omega arith)
+      | inr bad ↦ inr (no_escape rest i t opens (omega arith) slash bad)
+    ]
+    | inr no_slash ↦ elim (cases_Bool (is_plain (get_or rest i 0))) [
+      | inl plain ↦ text_from (suc left) rest (i + 1) (text_past_plain rest i t (omega arith) plain) (omega arith) opens (omega arith)
+      | inr bad ↦ inr (no_text_byte rest i t opens (omega arith) bad no_close no_slash)
     ]
   ]
+]
 
 same_true : (a b : List ℕ) → same_bytes a b ≡ true → a ≡ b
 same_true [] [] h = refl
@@ -94,19 +94,19 @@ same_refl (b ∷ bs) = and_from (eqb b b) (same_bytes bs bs) (eq-eqb b b refl) (
 
 reserved_or_not : (bs : List ℕ) → ((r : Reserved) × (bs ≡ reserved_bytes r)) ⊎ ((r : Reserved) → bs ≡ reserved_bytes r → ⊥)
 reserved_or_not bs = elim (cases_Bool (same_bytes bs (reserved_bytes (reserved_from bs)))) [
-    | inl found ↦ inl (reserved_from bs, same_true bs (reserved_bytes (reserved_from bs)) found)
-    | inr apart ↦ inr (λ r e.
+  | inl found ↦ inl (reserved_from bs, same_true bs (reserved_bytes (reserved_from bs)) found)
+  | inr apart ↦ inr (λ r e.
       let back : r ≡ reserved_from bs = sym (ap reserved_from e ∙ reserved_back r) in
       false≢true (sym apart ∙ subst (λ v. same_bytes bs (reserved_bytes v) ≡ true) back (subst (λ w. same_bytes w (reserved_bytes r) ≡ true) (sym e) (same_refl (reserved_bytes r)))))
-  ]
+]
 
 mark_or_not : (bs : List ℕ) → ((m : Mark) × (bs ≡ mark_bytes m)) ⊎ ((m : Mark) → bs ≡ mark_bytes m → ⊥)
 mark_or_not bs = elim (cases_Bool (same_bytes bs (mark_bytes (mark_from bs)))) [
-    | inl found ↦ inl (mark_from bs, same_true bs (mark_bytes (mark_from bs)) found)
-    | inr apart ↦ inr (λ m e.
+  | inl found ↦ inl (mark_from bs, same_true bs (mark_bytes (mark_from bs)) found)
+  | inr apart ↦ inr (λ m e.
       let back : m ≡ mark_from bs = sym (ap mark_from e ∙ mark_back m) in
       false≢true (sym apart ∙ subst (λ v. same_bytes bs (mark_bytes v) ≡ true) back (subst (λ w. same_bytes w (mark_bytes m) ≡ true) (sym e) (same_refl (mark_bytes m)))))
-  ]
+]
 
 word_or_not : (rest : List ℕ) → 0 < length rest → is_letter (get_or rest 0 0) ≡ true → TokenOrNot rest
 word_or_not rest some l =
@@ -149,26 +149,26 @@ marks_or_not rest some o =
 
 token_or_not : (rest : List ℕ) → 0 < length rest → TokenOrNot rest
 token_or_not rest some = elim (cases_Bool (is_letter (get_or rest 0 0))) [
-    | inl letter ↦ word_or_not rest some letter
-    | inr no_letter ↦ elim (cases_Bool (is_digit (get_or rest 0 0))) [
-      | inl digit ↦ digits_or_not rest some digit
-      | inr no_digit ↦ elim (cases_eq (get_or rest 0 0) 34) [
-        | inl quote ↦ text_from (length rest - 1) rest 1 (text_start rest some) (omega arith) quote (omega arith)
-        | inr no_quote ↦ marks_or_not rest some (record { no_letter = no_letter; no_digit = no_digit; no_quote = no_quote })
-      ]
+  | inl letter ↦ word_or_not rest some letter
+  | inr no_letter ↦ elim (cases_Bool (is_digit (get_or rest 0 0))) [
+    | inl digit ↦ digits_or_not rest some digit
+    | inr no_digit ↦ elim (cases_eq (get_or rest 0 0) 34) [
+      | inl quote ↦ text_from (length rest - 1) rest 1 (text_start rest some) (omega arith) quote (omega arith)
+      | inr no_quote ↦ marks_or_not rest some (record { no_letter = no_letter; no_digit = no_digit; no_quote = no_quote })
     ]
   ]
+]
 
 touching : (at start : ℕ) → ((ltb 0 at && eqb start at) ≡ true) ↔ ((0 < at) × (start ≡ at))
 touching at start = (λ h. let parts = and_parts (ltb 0 at) (eqb start at) h in (ltb-true 0 at parts.0, eqb-true start at parts.1), λ h. and_from (ltb 0 at) (eqb start at) (lt-ltb 0 at h.0) (eq-eqb start at h.1))
 
 end_stands : (text : List ℕ) (token : Token) → token.kind ≡ End → token.start ≡ length text → token.end ≡ length text → IsTokenOf text token
 end_stands text token is start end = record {
-    ordered = omega arith;
-    within = omega arith;
-    last = λ _. start;
-    longest = λ no_end. absurd (no_end is);
-  }
+  ordered = omega arith;
+  within = omega arith;
+  last = λ _. start;
+  longest = λ no_end. absurd (no_end is);
+}
 
 comes_at : (cursor : Cursor) (start : ℕ) → Skips cursor.text cursor.at start → ((token : Token) × IsNext cursor token) ⊎ ((bad : BadToken) × IsBad cursor bad)
 comes_at cursor start skipped =
@@ -178,21 +178,27 @@ comes_at cursor start skipped =
     let touches = ltb 0 cursor.at && eqb start cursor.at in
     let within = skipped.within in
     elim (cases_lt start (length text)) [
-      | inr all ↦ inl (build End start start line column touches, record {
-        skips = skipped;
-        stands = (let at_end : start ≡ length text = omega arith in end_stands text (build End start start line column touches) refl at_end at_end);
-        line = refl;
-        column = refl;
-        touches = touching cursor.at start;
-      })
-      | inl some ↦ elim (token_or_not (drop start text) (let size = length-drop start text in omega arith)) [
-        | inl is ↦ inl (build is.0 start (start + is.1) line column touches, record {
+      | inr all ↦ inl (
+        build End start start line column touches,
+        record {
           skips = skipped;
-          stands = token_stands text (build is.0 start (start + is.1) line column touches) is.1 within refl is.2;
+          stands = (let at_end : start ≡ length text = omega arith in end_stands text (build End start start line column touches) refl at_end at_end);
           line = refl;
           column = refl;
           touches = touching cursor.at start;
-        })
+        },
+      )
+      | inl some ↦ elim (token_or_not (drop start text) (let size = length-drop start text in omega arith)) [
+        | inl is ↦ inl (
+          build is.0 start (start + is.1) line column touches,
+          record {
+            skips = skipped;
+            stands = token_stands text (build is.0 start (start + is.1) line column touches) is.1 within refl is.2;
+            line = refl;
+            column = refl;
+            touches = touching cursor.at start;
+          },
+        )
         | inr none ↦ inr (record { line = line; column = column }, record { start = start; skips = skipped; remains = some; no_token = none; line = refl; column = refl })
       ]
     ]

@@ -1,8 +1,7 @@
 -- What comes next is determined.
-use Rattle.std.proofs.Common.{◌≡◌, ◌↔◌, ℕ, zero, suc, ◌+◌, ◌-◌, ◌<◌, ◌≤◌, Bool, true, false, ◌&&◌, eqb, eqb-true, List, [], ◌∷◌, length, take, drop, get_or, codes, cond, inl, inr, ◌⊎◌, refl, sym, ◌∙◌, ap, subst, arith}
-use Rattle.std.proofs.lemmas.Bool.{cases_order, false≢true}
+use Rattle.std.proofs.Common.{◌≡◌, ◌↔◌, ℕ, ◌-◌, ◌<◌, Bool, true, false, ◌&&◌, eqb, List, [], ◌∷◌, length, take, drop, get_or, codes, cond, inl, inr, ◌⊎◌, refl, sym, ◌∙◌, ap, subst, arith}
+use Rattle.std.proofs.lemmas.Bool.{cases_order}
 use Rattle.std.proofs.lemmas.List.{length-drop}
-use Rattle.text_lexer.specs.declared.token.BadToken.{BadToken}
 use Rattle.text_lexer.specs.declared.token.Mark.{Mark}
 use Rattle.text_lexer.specs.declared.token.Mark.TheVariants.{ClosingTag, EqualTo, Arrow, Assign, Less, Greater, Slash, OpenBrace, CloseBrace, OpenParen, CloseParen, OpenBracket, CloseBracket, Dot, Plus, Minus, Star, Percent}
 use Rattle.text_lexer.specs.declared.token.Reserved.{Reserved}
@@ -12,8 +11,8 @@ use Rattle.text_lexer.specs.declared.token.TokenKind.{TokenKind}
 use Rattle.text_lexer.specs.declared.token.TokenKind.TheVariants.{Name, Reserved as ReservedWord, Number, Text, Mark as MarkSign, End}
 use Rattle.text_lexer.specs.Bytes.{is_letter, is_digit}
 use Rattle.text_lexer.specs.Cursor.{Cursor}
-use Rattle.text_lexer.specs.Lexing.{Skips, IsNext, IsBad, Lexes, done, more, after, HasOneNext, HasOneBad, HasNeverBoth, HasOneTokenList}
-use Rattle.text_lexer.specs.Token.{reserved_bytes, mark_bytes, IsToken, IsLongest, IsTokenOf, HasNoToken}
+use Rattle.text_lexer.specs.Lexing.{Skips, Lexes, done, more, after, HasOneNext, HasNeverBoth, HasOneTokenList}
+use Rattle.text_lexer.specs.Token.{reserved_bytes, mark_bytes, IsToken, IsLongest, IsTokenOf}
 use Rattle.text_lexer.proofs.Lexemes.{reserved_word, mark_first, word_first, digits_first, text_first, token_lexeme, letter_no_digit, letter_no_quote, letter_no_other, digit_no_quote, digit_no_other, quote_no_other}
 use Rattle.text_lexer.proofs.Tokens.{end_or_not, longest_some}
 

@@ -4,7 +4,7 @@ use Rattle.text_lexer.specs.declared.token.BadToken.{BadToken}
 use Rattle.text_lexer.specs.declared.token.Token.{Token}
 use Rattle.text_lexer.specs.declared.token.TokenKind.{TokenKind}
 use Rattle.text_lexer.specs.declared.token.TokenKind.TheVariants.{Name, Reserved as ReservedWord, Number, Text, Mark as MarkSign, End}
-use Rattle.text_lexer.specs.Bytes.{is_blank, is_hash, is_line_feed}
+use Rattle.text_lexer.specs.Bytes.{is_blank, is_hash}
 use Rattle.text_lexer.specs.Cursor.{Cursor}
 use Rattle.text_lexer.specs.Place.{line_at, column_at}
 use Rattle.text_lexer.specs.Token.{HasNoToken, IsTokenOf}
