@@ -1,17 +1,17 @@
 -- What the bytes of a number and a text mean.
-use Rattle.std.proofs.Common.{◌≡◌, ℕ, zero, suc, ◌+◌, ◌-◌, ◌^◌, ◌<◌, ◌≤◌, Bool, true, false, ◌&&◌, eqb, eqb-true, List, [], ◌∷◌, ◌++◌, length, take, drop, get_or, refl, sym, ◌∙◌, ap, subst, Result, Ok, Err, arith, rules}
+use Rattle.std.proofs.Common.{◌≡◌, ℕ, suc, ◌+◌, ◌-◌, ◌^◌, ◌<◌, true, false, eqb, List, [], ◌∷◌, ◌++◌, length, take, drop, get_or, refl, sym, ◌∙◌, ap, subst, Result, Ok, Err, arith, rules}
 use Rattle.std.proofs.lemmas.Str.{IsUtf8-drop, IsCharBoundary-before_ascii, IsCharBoundary-after_ascii}
 use Rattle.std.specs.Str.{IsUtf8, IsCharBoundary}
 use Rattle.std.specs.Option.{SomeIff}
 use Rattle.std.specs.Result.{OkIff, result_ok}
-use Rattle.std.proofs.lemmas.Bool.{and_parts, false≢true, ne_eqb, eq-eqb, cond-true, cond-false}
+use Rattle.std.proofs.lemmas.Bool.{and_parts, false≢true, ne_eqb, cond-false}
 use Rattle.std.proofs.lemmas.Bool.Decides.{nat_tests}
 use Rattle.std.proofs.lemmas.List.{append_assoc, length-append, get_or_at, drop_at, drop_more, drop_all, length-drop, take-append-drop}
 use Rattle.std.proofs.lemmas.Str.Parse.{IsNumeralModel, numerals_by_fold}
 use Rattle.std.specs.List.{list_all, slice_range}
 use Rattle.text_lexer.specs.Bytes.{is_digit}
 use Rattle.text_lexer.specs.Token.{is_escape, is_plain, is_text, is_text_rest, escape_value, unescaped, decimal_value, decimal_value_after}
-use Rattle.text_lexer.proofs.Tokens.{rest_escape, rest_plain, rest_last, text_ends}
+use Rattle.text_lexer.proofs.Tokens.{rest_plain, rest_last, text_ends}
 use Rattle.text_lexer.proofs.Lexemes.{text_rest}
 
 -- digits, and the number that they write
@@ -89,7 +89,7 @@ unescaped_more content wide rest plain [] more whole ch e none some m c w h = ab
 unescaped_more content wide rest plain (b ∷ bs) more whole ch e none some m c w h =
     let is = unescaped_first plain bs b none in
     let was : content ++ (plain ++ escape_value b ∷ unescaped bs) ≡ whole = ap (λ v. content ++ v) (sym is ∙ sym (ap unescaped e)) ∙ h in
-    rw (w, c, m, append_assoc, append_assoc) was
+    rw (w, c, m) (simp append_assoc was)
 
 pub decimal_some : {E : Type 0} → (bs : List ℕ) (r : Result ℕ E) → 0 < length bs → OkIff r ((0 < length bs) × (decimal_value bs < 2 ^ 32)) (decimal_value bs) → SomeIff (result_ok r) (decimal_value bs < 2 ^ 32) (decimal_value bs)
 decimal_some bs (Ok x) some h = (h.0.1, h.1)

@@ -1,5 +1,5 @@
 -- The longest bytes at the front that have the form of a token, and whether they are one.
-use Rattle.std.proofs.Common.{◌≡◌, ◌≢◌, ℕ, zero, suc, ◌+◌, ◌-◌, ◌<◌, ◌≤◌, Bool, true, false, not, ◌&&◌, ◌||◌, List, [], ◌∷◌, length, take, drop, get_or, eqb, eqb-true, leb, add-one, refl, sym, ◌∙◌, ap, subst, arith, rules}
+use Rattle.std.proofs.Common.{◌≡◌, ℕ, zero, suc, ◌+◌, ◌-◌, ◌<◌, ◌≤◌, Bool, true, false, not, ◌&&◌, List, [], ◌∷◌, length, take, drop, get_or, eqb, eqb-true, leb, refl, sym, ◌∙◌, ap, subst, arith}
 use Rattle.std.proofs.lemmas.Bool.{cond-false, and_parts, and_from, or_left, leb-true, eq-eqb, ne_eqb, false≢true}
 use Rattle.std.proofs.lemmas.Bool.Decides.{nat_tests}
 use Rattle.std.proofs.lemmas.List.{length-take-le, length-drop, get_or-take, drop_more, drop_all}
@@ -203,27 +203,27 @@ text_rest bs h = (and_parts (eqb (get_or bs 0 0) 34) (is_text_rest (drop 1 bs)) 
 -- What the first byte of bytes that have the form of a token tells of the rest.
 lexeme_word : (bs : List ℕ) → is_letter (get_or bs 0 0) ≡ true → IsLexeme bs → list_all is_name_byte bs ≡ true
 lexeme_word bs l x = elim x [
-    | word h ↦ word_all bs h
-    | digits h ↦ absurd (letter_no_digit (get_or bs 0 0) l (digits_first bs h))
-    | text h ↦ absurd (letter_no_quote (get_or bs 0 0) l (text_first bs h))
-    | mark m e ↦ absurd (letter_no_other (get_or bs 0 0) l (rw e (mark_first m)))
-  ]
+  | word h ↦ word_all bs h
+  | digits h ↦ absurd (letter_no_digit (get_or bs 0 0) l (digits_first bs h))
+  | text h ↦ absurd (letter_no_quote (get_or bs 0 0) l (text_first bs h))
+  | mark m e ↦ absurd (letter_no_other (get_or bs 0 0) l (rw e (mark_first m)))
+]
 
 lexeme_digits : (bs : List ℕ) → is_digit (get_or bs 0 0) ≡ true → IsLexeme bs → list_all is_digit bs ≡ true
 lexeme_digits bs l x = elim x [
-    | word h ↦ absurd (letter_no_digit (get_or bs 0 0) (word_first bs h) l)
-    | digits h ↦ digits_all bs h
-    | text h ↦ absurd (digit_no_quote (get_or bs 0 0) l (text_first bs h))
-    | mark m e ↦ absurd (digit_no_other (get_or bs 0 0) l (rw e (mark_first m)))
-  ]
+  | word h ↦ absurd (letter_no_digit (get_or bs 0 0) (word_first bs h) l)
+  | digits h ↦ digits_all bs h
+  | text h ↦ absurd (digit_no_quote (get_or bs 0 0) l (text_first bs h))
+  | mark m e ↦ absurd (digit_no_other (get_or bs 0 0) l (rw e (mark_first m)))
+]
 
 lexeme_text : (bs : List ℕ) → eqb (get_or bs 0 0) 34 ≡ true → IsLexeme bs → is_text_rest (drop 1 bs) ≡ true
 lexeme_text bs l x = elim x [
-    | word h ↦ absurd (letter_no_quote (get_or bs 0 0) (word_first bs h) l)
-    | digits h ↦ absurd (digit_no_quote (get_or bs 0 0) (digits_first bs h) l)
-    | text h ↦ text_rest bs h
-    | mark m e ↦ absurd (quote_no_other (get_or bs 0 0) l (rw e (mark_first m)))
-  ]
+  | word h ↦ absurd (letter_no_quote (get_or bs 0 0) (word_first bs h) l)
+  | digits h ↦ absurd (digit_no_quote (get_or bs 0 0) (digits_first bs h) l)
+  | text h ↦ text_rest bs h
+  | mark m e ↦ absurd (quote_no_other (get_or bs 0 0) l (rw e (mark_first m)))
+]
 
 -- a token has the form of one
 pub token_lexeme : (kind : TokenKind) (bs : List ℕ) → IsToken kind bs → IsLexeme bs
@@ -236,11 +236,11 @@ token_lexeme End bs t = absurd t
 
 lexeme_some : (rest : List ℕ) (m : ℕ) → IsLexeme (take m rest) → 0 < m
 lexeme_some rest zero x = absurd (elim x as (λ bs _. bs ≡ [] → ⊥) [
-    | word h ↦ λ e. let z : false ≡ true = rw e at h in cc
-    | digits h ↦ λ e. let z : false ≡ true = rw e at h in cc
-    | text h ↦ λ e. let z : false ≡ true = rw e at h in cc
-    | mark m e ↦ λ f. let z : false ≡ true = rw (← e, f) at (mark_some m) in cc
-  ] refl)
+  | word h ↦ λ e. let z : false ≡ true = rw e at h in cc
+  | digits h ↦ λ e. let z : false ≡ true = rw e at h in cc
+  | text h ↦ λ e. let z : false ≡ true = rw e at h in cc
+  | mark m e ↦ λ f. let z : false ≡ true = rw (← e, f) at (mark_some m) in cc
+] refl)
 lexeme_some rest (suc m) x = omega arith
 
 run_some : (p : ℕ → Bool) (rest : List ℕ) → 0 < length rest → p (get_or rest 0 0) ≡ true → 0 < prefix_len p rest
@@ -297,14 +297,14 @@ word_short End bs l t = absurd t
 
 pub no_long_word : (rest : List ℕ) (n : ℕ) → 0 < length rest → is_letter (get_or rest 0 0) ≡ true → n ≡ prefix_len is_name_byte rest → 64 < n → HasNoToken rest
 no_long_word rest n some l e long = record {
-    none = λ kind k x.
+  none = λ kind k x.
       let within = prefix_len-le-length is_name_byte rest in
       let most = x.longest (prefix_len is_name_byte rest) within (word (word_is rest some l)) in
       let more : 0 < k = omega arith in
       let short = word_short kind (take k rest) (rw get_or-take l) x.token in
       let size = length-take-le k rest x.within in
       omega arith;
-  }
+}
 
 -- a number, or digits that begin with a 0
 pub number_token : (rest : List ℕ) (n : ℕ) → 0 < length rest → is_digit (get_or rest 0 0) ≡ true → n ≡ prefix_len is_digit rest → (1 < n → get_or rest 0 0 ≡ 48 → ⊥) → IsLongest rest Number n
@@ -329,13 +329,13 @@ digits_zero End bs l t = absurd t
 
 pub no_leading_zero : (rest : List ℕ) (n : ℕ) → 0 < length rest → is_digit (get_or rest 0 0) ≡ true → n ≡ prefix_len is_digit rest → 1 < n → get_or rest 0 0 ≡ 48 → HasNoToken rest
 no_leading_zero rest n some l e two first_zero = record {
-    none = λ kind k x.
+  none = λ kind k x.
       let within = prefix_len-le-length is_digit rest in
       let most = x.longest (prefix_len is_digit rest) within (digits (digits_is rest some l)) in
       let size = length-take-le k rest x.within in
       let first : get_or (take k rest) 0 0 ≡ get_or rest 0 0 = get_or-take k rest 0 0 (omega arith) in
       digits_zero kind (take k rest) (rw first l) x.token (omega arith) (first ∙ first_zero);
-  }
+}
 
 -- The rest of a text, a byte or an escape further on.
 plain_step : (b : ℕ) (bs : List ℕ) → is_plain b ≡ true → is_text_rest (b ∷ bs) ≡ is_text_rest bs
@@ -395,44 +395,44 @@ text_start (b ∷ bs) h = record { within = omega arith; same = same }
 
 pub text_past_plain : (rest : List ℕ) (i : ℕ) → IsTextFrom rest i → i < length rest → is_plain (get_or rest i 0) ≡ true → IsTextFrom rest (i + 1)
 text_past_plain rest i t h p = record {
-    within = omega arith;
-    same = λ m.
+  within = omega arith;
+  same = λ m.
       let e : m - (i + 1) ≡ m - i - 1 = omega arith in
       t.same m ∙ rw (drop_more rest i 0 h, e) (text_plain (get_or rest i 0) (drop (i + 1) rest) (m - i) p);
-  }
+}
 
 pub text_past_escape : (rest : List ℕ) (i : ℕ) → IsTextFrom rest i → i + 1 < length rest → get_or rest i 0 ≡ 92 → is_escape (get_or rest (i + 1) 0) ≡ true → IsTextFrom rest (i + 2)
 text_past_escape rest i t h b p = record {
-    within = omega arith;
-    same = λ m.
+  within = omega arith;
+  same = λ m.
       let e : m - (i + 2) ≡ m - i - 2 = omega arith in
       let f : i + 1 + 1 ≡ i + 2 = omega arith in
       t.same m ∙ rw (drop_more rest i 0 (omega arith), drop_more rest (i + 1) 0 h, f, e) (text_escape (get_or rest i 0) (get_or rest (i + 1) 0) (drop (i + 2) rest) (m - i) b p);
-  }
+}
 
 -- the closing quotation mark ends the text
 pub text_token : (rest : List ℕ) (i : ℕ) → IsTextFrom rest i → 0 < i → i < length rest → get_or rest 0 0 ≡ 34 → get_or rest i 0 ≡ 34 → IsLongest rest Text (i + 1)
 text_token rest i t some h opens close = record {
-    within = omega arith;
-    token = and_from (eqb (get_or (take (i + 1) rest) 0 0) 34) (is_text_rest (drop 1 (take (i + 1) rest))) (let more : 0 < i + 1 = omega arith in rw get_or-take (eq-eqb (get_or rest 0 0) 34 opens)) (let e : i + 1 - i ≡ 1 = omega arith in t.same (i + 1) ∙ rw (e, drop_more rest i 0 h) (eq-eqb (get_or rest i 0) 34 close));
-    longest = λ m l x.
+  within = omega arith;
+  token = and_from (eqb (get_or (take (i + 1) rest) 0 0) 34) (is_text_rest (drop 1 (take (i + 1) rest))) (let more : 0 < i + 1 = omega arith in rw get_or-take (eq-eqb (get_or rest 0 0) 34 opens)) (let e : i + 1 - i ≡ 1 = omega arith in t.same (i + 1) ∙ rw (e, drop_more rest i 0 h) (eq-eqb (get_or rest i 0) 34 close));
+  longest = λ m l x.
       let more = lexeme_some rest m x in
       let is = lexeme_text (take m rest) (rw get_or-take (eq-eqb (get_or rest 0 0) 34 opens)) x in
       let ends = rw (drop_more rest i 0 h) at (sym (t.same m) ∙ is) in
       let size = length-drop (i + 1) rest in
       let most = text_close (get_or rest i 0) (drop (i + 1) rest) (m - i) close (omega arith) ends in
       omega arith;
-  }
+}
 
 -- no text stands there
 no_text : (rest : List ℕ) (i : ℕ) → IsTextFrom rest i → get_or rest 0 0 ≡ 34 → ((q : ℕ) → is_text_rest (take q (drop i rest)) ≡ false) → HasNoToken rest
 no_text rest i t opens bad = record {
-    none = λ kind k x.
+  none = λ kind k x.
       let y = token_lexeme kind (take k rest) x.token in
       let more = lexeme_some rest k y in
       let is = lexeme_text (take k rest) (rw get_or-take (eq-eqb (get_or rest 0 0) 34 opens)) y in
       false≢true (sym (t.same k ∙ bad (k - i)) ∙ is);
-  }
+}
 
 pub no_closing : (rest : List ℕ) (i : ℕ) → IsTextFrom rest i → get_or rest 0 0 ≡ 34 → length rest ≤ i → HasNoToken rest
 no_closing rest i t opens h = no_text rest i t opens (λ q. rw (drop_all i rest h) (text_bad_nothing q))
@@ -467,11 +467,11 @@ HasNoPair rest = 1 < length rest → (m : Mark) → get_or rest 0 0 ∷ get_or r
 
 lexeme_mark : (bs : List ℕ) → BeginsNoOther bs → IsLexeme bs → (m : Mark) × (bs ≡ mark_bytes m)
 lexeme_mark bs o x = elim x [
-    | word h ↦ absurd (false≢true (sym o.no_letter ∙ word_first bs h))
-    | digits h ↦ absurd (false≢true (sym o.no_digit ∙ digits_first bs h))
-    | text h ↦ absurd (o.no_quote (eqb-true (get_or bs 0 0) 34 (text_first bs h)))
-    | mark m e ↦ (m, e)
-  ]
+  | word h ↦ absurd (false≢true (sym o.no_letter ∙ word_first bs h))
+  | digits h ↦ absurd (false≢true (sym o.no_digit ∙ digits_first bs h))
+  | text h ↦ absurd (o.no_quote (eqb-true (get_or bs 0 0) 34 (text_first bs h)))
+  | mark m e ↦ (m, e)
+]
 
 mark_front : (rest : List ℕ) → BeginsNoOther rest → (k : ℕ) → IsLexeme (take k rest) → (m : Mark) × (take k rest ≡ mark_bytes m)
 mark_front rest o k x =
@@ -498,25 +498,25 @@ mark_single rest o none (suc (suc (suc k))) h x =
 
 pub pair_token : (rest : List ℕ) (m : Mark) → BeginsNoOther rest → 1 < length rest → get_or rest 0 0 ∷ get_or rest 1 0 ∷ [] ≡ mark_bytes m → IsLongest rest (MarkSign m) 2
 pair_token rest m o two e = record {
-    within = omega arith;
-    token = take_two rest two ∙ e;
-    longest = mark_most rest o;
-  }
+  within = omega arith;
+  token = take_two rest two ∙ e;
+  longest = mark_most rest o;
+}
 
 pub single_token : (rest : List ℕ) (m : Mark) → BeginsNoOther rest → 0 < length rest → HasNoPair rest → get_or rest 0 0 ∷ [] ≡ mark_bytes m → IsLongest rest (MarkSign m) 1
 single_token rest m o some none e = record {
-    within = omega arith;
-    token = take_one rest some ∙ e;
-    longest = mark_single rest o none;
-  }
+  within = omega arith;
+  token = take_one rest some ∙ e;
+  longest = mark_single rest o none;
+}
 
 pub no_mark : (rest : List ℕ) → BeginsNoOther rest → 0 < length rest → HasNoPair rest → ((m : Mark) → get_or rest 0 0 ∷ [] ≡ mark_bytes m → ⊥) → HasNoToken rest
 no_mark rest o some pair single = record {
-    none = λ kind k x.
+  none = λ kind k x.
       let y = token_lexeme kind (take k rest) x.token in
       let more = lexeme_some rest k y in
       let most = mark_single rest o pair k x.within y in
       let one : k ≡ 1 = omega arith in
       let is = mark_front rest o 1 (subst (λ v. IsLexeme (take v rest)) one y) in
       single is.0 (sym (take_one rest some) ∙ is.1);
-  }
+}

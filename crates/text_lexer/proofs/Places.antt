@@ -1,10 +1,10 @@
 -- Lines and columns, from one byte to the next.
-use Rattle.std.proofs.Common.{◌≡◌, ℕ, ◌+◌, ◌-◌, ◌<◌, ◌≤◌, Bool, true, false, not, cond, eqb, List, length, take, drop, get_or, refl, sym, ◌∙◌, ap, count_by, arith}
+use Rattle.std.proofs.Common.{◌≡◌, ℕ, ◌+◌, ◌-◌, ◌<◌, ◌≤◌, Bool, true, false, not, cond, eqb, List, length, take, get_or, refl, ap, arith}
 use Rattle.std.proofs.lemmas.List.{length-take-le, length-drop}
 use Rattle.std.proofs.lemmas.List.Sums.{count_by_more_yes, count_by_more_no, count_by-le-length, suffix_len-take_yes, suffix_len-take_no, suffix_len-le-length}
-use Rattle.std.specs.List.{after_last, suffix_len}
+use Rattle.std.specs.List.{suffix_len}
 use Rattle.text_lexer.specs.Bytes.{is_line_feed}
-use Rattle.text_lexer.specs.Place.{line_at, column_at, IsPlace}
+use Rattle.text_lexer.specs.Place.{column_at, IsPlace}
 
 abbrev is_inside : ℕ → Bool
 is_inside b = not (is_line_feed b)

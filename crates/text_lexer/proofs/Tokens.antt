@@ -1,5 +1,5 @@
 -- The bytes of a token: none is a line feed, and the first and the last are ASCII.
-use Rattle.std.proofs.Common.{◌≡◌, ◌≢◌, ℕ, zero, suc, ◌+◌, ◌-◌, ◌<◌, ◌≤◌, Bool, true, false, not, ◌&&◌, cond, eqb, ltb, ltb-true, eqb-true, List, [], ◌∷◌, length, take, drop, get_or, add-zero, leb-true, inl, inr, ◌⊎◌, refl, sym, ◌∙◌, ap, subst, arith}
+use Rattle.std.proofs.Common.{◌≡◌, ℕ, zero, suc, ◌+◌, ◌-◌, ◌<◌, ◌≤◌, Bool, true, false, not, ◌&&◌, eqb, ltb, ltb-true, eqb-true, List, [], ◌∷◌, length, take, drop, get_or, add-zero, leb-true, inl, inr, ◌⊎◌, refl, sym, ◌∙◌, ap, subst, arith}
 use Rattle.std.proofs.lemmas.Bool.{cases_Bool, cond-true, cond-false, and_parts, and_from, false≢true, ne_eqb}
 use Rattle.std.proofs.lemmas.Str.{IsCharBoundary-end, IsCharBoundary-before_ascii, IsCharBoundary-after_ascii}
 use Rattle.std.specs.Str.{IsUtf8, IsCharBoundary}
@@ -107,29 +107,32 @@ rest_inside : (bs : List ℕ) → is_text_rest bs ≡ true → list_all is_insid
 rest_inside [] h = refl
 rest_inside (b ∷ []) h = and_from (is_inside b) true (equal_inside b 34 h refl) refl
 rest_inside (b ∷ c ∷ bs) h = elim (cases_Bool (eqb b 92)) [
-    | inl e ↦
+  | inl e ↦
       let parts = and_parts (is_escape c) (is_text_rest bs) (sym (rest_escape b c bs e) ∙ h) in
       and_from (is_inside b) (is_inside c && list_all is_inside bs) (equal_inside b 92 e refl) (and_from (is_inside c) (list_all is_inside bs) (escape_inside c parts.0) (rest_inside bs parts.1))
-    | inr e ↦
+  | inr e ↦
       let parts = and_parts (is_plain b) (is_text_rest (c ∷ bs)) (sym (rest_plain b c bs e) ∙ h) in
       and_from (is_inside b) (list_all is_inside (c ∷ bs)) (plain_inside b parts.0) (rest_inside (c ∷ bs) parts.1)
-  ]
+]
 
 -- the rest of a text ends with a quotation mark
 pub rest_last : (bs : List ℕ) → is_text_rest bs ≡ true → (0 < length bs) × (get_or bs (length bs - 1) 0 ≡ 34)
 rest_last [] h = absurd (false≢true h)
 rest_last (b ∷ []) h = (omega arith, eqb-true b 34 h)
-rest_last (b ∷ c ∷ bs) h = (omega arith, elim (cases_Bool (eqb b 92)) [
+rest_last (b ∷ c ∷ bs) h = (
+  omega arith,
+  elim (cases_Bool (eqb b 92)) [
     | inl e ↦
-      let more = rest_last bs (and_parts (is_escape c) (is_text_rest bs) (sym (rest_escape b c bs e) ∙ h)).1 in
-      let some = more.0 in
-      let at : suc (suc (length bs)) - 1 ≡ suc (suc (length bs - 1)) = omega arith in
-      rw at more.1
+        let more = rest_last bs (and_parts (is_escape c) (is_text_rest bs) (sym (rest_escape b c bs e) ∙ h)).1 in
+        let some = more.0 in
+        let at : suc (suc (length bs)) - 1 ≡ suc (suc (length bs - 1)) = omega arith in
+        rw at more.1
     | inr e ↦
-      let more = rest_last (c ∷ bs) (and_parts (is_plain b) (is_text_rest (c ∷ bs)) (sym (rest_plain b c bs e) ∙ h)).1 in
-      let at : suc (suc (length bs)) - 1 ≡ suc (suc (length bs) - 1) = omega arith in
-      rw at more.1
-  ])
+        let more = rest_last (c ∷ bs) (and_parts (is_plain b) (is_text_rest (c ∷ bs)) (sym (rest_plain b c bs e) ∙ h)).1 in
+        let at : suc (suc (length bs)) - 1 ≡ suc (suc (length bs) - 1) = omega arith in
+        rw at more.1
+  ],
+)
 
 text_inside : (bs : List ℕ) → is_text bs ≡ true → list_all is_inside bs ≡ true
 text_inside [] h = refl
@@ -155,10 +158,10 @@ pub record HasAsciiEnds (bs : List ℕ) : Type 0 where
 
 ascii_ends : (bs : List ℕ) → 0 < length bs → list_all is_ascii bs ≡ true → HasAsciiEnds bs
 ascii_ends bs some h = record {
-    some = some;
-    first = ltb-true _ _ (all_at is_ascii bs 0 h some);
-    last = ltb-true _ _ (all_at is_ascii bs (length bs - 1) h (omega arith));
-  }
+  some = some;
+  first = ltb-true _ _ (all_at is_ascii bs 0 h some);
+  last = ltb-true _ _ (all_at is_ascii bs (length bs - 1) h (omega arith));
+}
 
 word_some : (bs : List ℕ) → is_word bs ≡ true → 0 < length bs
 word_some [] h = absurd (false≢true h)
@@ -226,8 +229,8 @@ place_past_token first_line text start line column n kind p x =
     let within = x.within in
     let at_most = p.within in
     place_run first_line text start line column n p (omega arith) (λ k l e.
-      let here : get_or bs k 0 ≡ get_or text (start + k) 0 = get_or-take n (drop start text) k 0 l ∙ get_or-drop start text k 0 in
-      no_feed bs (token_inside kind bs x.token) k (omega arith) (here ∙ e))
+    let here : get_or bs k 0 ≡ get_or text (start + k) 0 = get_or-take n (drop start text) k 0 l ∙ get_or-drop start text k 0 in
+    no_feed bs (token_inside kind bs x.token) k (omega arith) (here ∙ e))
 
 pub end_or_not : (kind : TokenKind) → (kind ≡ End) ⊎ (kind ≡ End → ⊥)
 end_or_not Name = inr (λ e. cc)
@@ -240,8 +243,8 @@ end_or_not End = inl refl
 -- a text may be cut before and behind a token
 pub start_boundary : (text : List ℕ) (token : Token) → IsTokenOf text token → IsCharBoundary text token.start
 start_boundary text token t = elim (end_or_not token.kind) [
-    | inl is ↦ rw (t.last is) (IsCharBoundary-end text)
-    | inr is ↦
+  | inl is ↦ rw (t.last is) (IsCharBoundary-end text)
+  | inr is ↦
       let x = t.longest is in
       let n = token.end - token.start in
       let bs = take n (drop token.start text) in
@@ -254,17 +257,17 @@ start_boundary text token t = elim (end_or_not token.kind) [
       let zero_more = add-zero token.start in
       let here : get_or bs 0 0 ≡ get_or text token.start 0 = get_or-take n (drop token.start text) 0 0 (omega arith) ∙ (get_or-drop token.start text 0 0 ∙ ap (λ i. get_or text i 0) zero_more) in
       IsCharBoundary-before_ascii text token.start (omega arith) (omega arith)
-  ]
+]
 
 pub end_boundary : (text : List ℕ) (token : Token) → IsUtf8 text → IsTokenOf text token → IsCharBoundary text token.end
 end_boundary text token utf8 t = elim (end_or_not token.kind) [
-    | inl is ↦
+  | inl is ↦
       let last = t.last is in
       let ordered = t.ordered in
       let within = t.within in
       let same : token.end ≡ length text = omega arith in
       rw same (IsCharBoundary-end text)
-    | inr is ↦
+  | inr is ↦
       let x = t.longest is in
       let n = token.end - token.start in
       let bs = take n (drop token.start text) in
@@ -277,7 +280,7 @@ end_boundary text token utf8 t = elim (end_or_not token.kind) [
       let here : get_or bs (length bs - 1) 0 ≡ get_or text (token.start + (length bs - 1)) 0 = get_or-take n (drop token.start text) (length bs - 1) 0 (omega arith) ∙ get_or-drop token.start text (length bs - 1) 0 in
       let at : token.start + (length bs - 1) + 1 ≡ token.end = omega arith in
       subst (λ v. IsCharBoundary text v) at (IsCharBoundary-after_ascii text (token.start + (length bs - 1)) utf8 (omega arith) (omega arith))
-  ]
+]
 
 -- the bytes of a token of a known kind
 pub token_of_kind : (text : List ℕ) (token : Token) (kind : TokenKind) → IsTokenOf text token → token.kind ≡ kind → (kind ≡ End → ⊥) → IsToken kind (slice_range text token.start token.end)

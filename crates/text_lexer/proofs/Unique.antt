@@ -1,8 +1,7 @@
 -- What comes next is determined.
-use Rattle.std.proofs.Common.{◌≡◌, ◌↔◌, ℕ, zero, suc, ◌+◌, ◌-◌, ◌<◌, ◌≤◌, Bool, true, false, ◌&&◌, eqb, eqb-true, List, [], ◌∷◌, length, take, drop, get_or, codes, cond, inl, inr, ◌⊎◌, refl, sym, ◌∙◌, ap, subst, arith}
-use Rattle.std.proofs.lemmas.Bool.{cases_order, false≢true}
+use Rattle.std.proofs.Common.{◌≡◌, ◌↔◌, ℕ, ◌-◌, ◌<◌, Bool, true, false, ◌&&◌, eqb, List, [], ◌∷◌, length, take, drop, get_or, codes, cond, inl, inr, ◌⊎◌, refl, sym, ◌∙◌, ap, subst, arith}
+use Rattle.std.proofs.lemmas.Bool.{cases_order}
 use Rattle.std.proofs.lemmas.List.{length-drop}
-use Rattle.text_lexer.specs.declared.token.BadToken.{BadToken}
 use Rattle.text_lexer.specs.declared.token.Mark.{Mark}
 use Rattle.text_lexer.specs.declared.token.Mark.TheVariants.{ClosingTag, EqualTo, Arrow, Assign, Less, Greater, Slash, OpenBrace, CloseBrace, OpenParen, CloseParen, OpenBracket, CloseBracket, Dot, Plus, Minus, Star, Percent}
 use Rattle.text_lexer.specs.declared.token.Reserved.{Reserved}
@@ -12,26 +11,26 @@ use Rattle.text_lexer.specs.declared.token.TokenKind.{TokenKind}
 use Rattle.text_lexer.specs.declared.token.TokenKind.TheVariants.{Name, Reserved as ReservedWord, Number, Text, Mark as MarkSign, End}
 use Rattle.text_lexer.specs.Bytes.{is_letter, is_digit}
 use Rattle.text_lexer.specs.Cursor.{Cursor}
-use Rattle.text_lexer.specs.Lexing.{Skips, IsNext, IsBad, Lexes, done, more, after, HasOneNext, HasOneBad, HasNeverBoth, HasOneTokenList}
-use Rattle.text_lexer.specs.Token.{reserved_bytes, mark_bytes, IsToken, IsLongest, IsTokenOf, HasNoToken}
+use Rattle.text_lexer.specs.Lexing.{Skips, Lexes, done, more, after, HasOneNext, HasNeverBoth, HasOneTokenList}
+use Rattle.text_lexer.specs.Token.{reserved_bytes, mark_bytes, IsToken, IsLongest, IsTokenOf}
 use Rattle.text_lexer.proofs.Lexemes.{reserved_word, mark_first, word_first, digits_first, text_first, token_lexeme, letter_no_digit, letter_no_quote, letter_no_other, digit_no_quote, digit_no_other, quote_no_other}
 use Rattle.text_lexer.proofs.Tokens.{end_or_not, longest_some}
 
 -- whether two texts have the same bytes
-abbrev same_bytes : List ℕ → List ℕ → Bool
+abbrev pub same_bytes : List ℕ → List ℕ → Bool
 same_bytes [] [] = true
 same_bytes [] (c ∷ cs) = false
 same_bytes (b ∷ bs) [] = false
 same_bytes (b ∷ bs) (c ∷ cs) = eqb b c && same_bytes bs cs
 
 -- the reserved word and the mark that these bytes spell, if they spell one
-abbrev reserved_from : List ℕ → Reserved
+abbrev pub reserved_from : List ℕ → Reserved
 reserved_from bs = cond (same_bytes bs (codes "component")) Component (cond (same_bytes bs (codes "signal")) Signal (cond (same_bytes bs (codes "memo")) Memo (cond (same_bytes bs (codes "effect")) Effect (cond (same_bytes bs (codes "resource")) Resource (cond (same_bytes bs (codes "after")) After (cond (same_bytes bs (codes "load")) Load (cond (same_bytes bs (codes "store")) Store (cond (same_bytes bs (codes "max")) Max (cond (same_bytes bs (codes "cleanup")) Cleanup (cond (same_bytes bs (codes "area")) Area (cond (same_bytes bs (codes "if")) If (cond (same_bytes bs (codes "then")) Then (cond (same_bytes bs (codes "else")) Else (cond (same_bytes bs (codes "each")) Each (cond (same_bytes bs (codes "row")) Row (cond (same_bytes bs (codes "empty")) Empty (cond (same_bytes bs (codes "lt")) Lt (cond (same_bytes bs (codes "phase")) Phase (cond (same_bytes bs (codes "lane")) Lane (cond (same_bytes bs (codes "set")) Set (cond (same_bytes bs (codes "get")) Get (cond (same_bytes bs (codes "pump")) Pump (cond (same_bytes bs (codes "dispose")) Dispose (cond (same_bytes bs (codes "insert")) Insert (cond (same_bytes bs (codes "at")) At (cond (same_bytes bs (codes "remove")) Remove (cond (same_bytes bs (codes "move")) Move (To))))))))))))))))))))))))))))
 
-abbrev mark_from : List ℕ → Mark
+abbrev pub mark_from : List ℕ → Mark
 mark_from bs = cond (same_bytes bs (codes "</")) ClosingTag (cond (same_bytes bs (codes "==")) EqualTo (cond (same_bytes bs (codes "=>")) Arrow (cond (same_bytes bs (codes "=")) Assign (cond (same_bytes bs (codes "<")) Less (cond (same_bytes bs (codes ">")) Greater (cond (same_bytes bs (codes "/")) Slash (cond (same_bytes bs (codes "{")) OpenBrace (cond (same_bytes bs (codes "}")) CloseBrace (cond (same_bytes bs (codes "(")) OpenParen (cond (same_bytes bs (codes ")")) CloseParen (cond (same_bytes bs (codes "[")) OpenBracket (cond (same_bytes bs (codes "]")) CloseBracket (cond (same_bytes bs (codes ".")) Dot (cond (same_bytes bs (codes "+")) Plus (cond (same_bytes bs (codes "-")) Minus (cond (same_bytes bs (codes "*")) Star (Percent)))))))))))))))))
 
-reserved_back : (r : Reserved) → reserved_from (reserved_bytes r) ≡ r
+pub reserved_back : (r : Reserved) → reserved_from (reserved_bytes r) ≡ r
 reserved_back Component = refl
 reserved_back Signal = refl
 reserved_back Memo = refl
@@ -62,7 +61,7 @@ reserved_back Remove = refl
 reserved_back Move = refl
 reserved_back To = refl
 
-mark_back : (m : Mark) → mark_from (mark_bytes m) ≡ m
+pub mark_back : (m : Mark) → mark_from (mark_bytes m) ≡ m
 mark_back ClosingTag = refl
 mark_back EqualTo = refl
 mark_back Arrow = refl
@@ -193,7 +192,7 @@ same_tests true b P s t = sym (t.1 (s.0 refl))
 same_tests false true P s t = s.1 (t.0 refl)
 same_tests false false P s t = refl
 
-abbrev build : TokenKind → ℕ → ℕ → ℕ → ℕ → Bool → Token
+abbrev pub build : TokenKind → ℕ → ℕ → ℕ → ℕ → Bool → Token
 build kind start end line column touches = record { kind = kind; start = start; end = end; line = line; column = column; touches = touches }
 
 same_token : (a b : Token) → a.kind ≡ b.kind → a.start ≡ b.start → a.end ≡ b.end → a.line ≡ b.line → a.column ≡ b.column → a.touches ≡ b.touches → a ≡ b

@@ -4,7 +4,7 @@ use Rattle.text_lexer.specs.declared.token.BadToken.{BadToken}
 use Rattle.text_lexer.specs.declared.token.Token.{Token}
 use Rattle.text_lexer.specs.declared.token.TokenKind.{TokenKind}
 use Rattle.text_lexer.specs.declared.token.TokenKind.TheVariants.{Name, Reserved as ReservedWord, Number, Text, Mark as MarkSign, End}
-use Rattle.text_lexer.specs.Bytes.{is_blank, is_hash, is_line_feed}
+use Rattle.text_lexer.specs.Bytes.{is_blank, is_hash}
 use Rattle.text_lexer.specs.Cursor.{Cursor}
 use Rattle.text_lexer.specs.Place.{line_at, column_at}
 use Rattle.text_lexer.specs.Token.{HasNoToken, IsTokenOf}
@@ -74,6 +74,10 @@ HasOneBad cursor = (a b : BadToken) → IsBad cursor a → IsBad cursor b → a 
 -- where a bad token comes, no token does
 abbrev pub HasNeverBoth : Cursor → Type 0
 HasNeverBoth cursor = (token : Token) (bad : BadToken) → IsNext cursor token → IsBad cursor bad → ⊥
+
+-- at a cursor within its text, a token or a bad one comes next
+abbrev pub HasSomeNext : Cursor → Type 0
+HasSomeNext cursor = cursor.at ≤ length cursor.text → ((token : Token) × IsNext cursor token) ⊎ ((bad : BadToken) × IsBad cursor bad)
 
 -- from a cursor on, there is one list of so many tokens, and it leads to one cursor
 abbrev pub HasOneTokenList : Cursor → Type 0

@@ -102,7 +102,8 @@ fn number(rest: &[u8]) -> Option<(TokenKind, usize)>
     ensures none { IfNone result (HasNoToken rest.now) }
 {
     let n = digits(rest);
-    if n > 1 && rest[0] == b'0' {
+    let starts_with_zero = rest[0] == b'0';
+    if n > 1 && starts_with_zero {
         return None;
     }
     Some((TokenKind::Number, n))

@@ -40,7 +40,10 @@ impl<'a> Model for Lexer<'a> {
     ghost Value = { Cursor };
 
     ghost view = { λ l. record {
-        text = l.text.now; first_line = l.first_line; at = l.place.offset } };
+      text = l.text.now;
+      first_line = l.first_line;
+      at = l.place.offset;
+    } };
 
     ghost invariant = { λ l. (length l.text.now + l.first_line < 2 ^ 31)
         × IsPlace l.first_line l.text.now l.place.offset l.place.line l.place.column };
@@ -50,8 +53,14 @@ impl Place {
     /// The token of `length` bytes that stands here.
     fn token(self, kind: TokenKind, length: usize, touches: bool) -> Token
         requires { self.offset + length < 2 ^ 64 }
-        ensures { result ≡ record { kind = kind; start = self.offset; end = self.offset + length;
-            line = self.line; column = self.column; touches = touches } }
+        ensures { result ≡ record {
+          kind = kind;
+          start = self.offset;
+          end = self.offset + length;
+          line = self.line;
+          column = self.column;
+          touches = touches;
+        } }
     {
         Token {
             kind,

@@ -1,4 +1,4 @@
-use Rattle.std.proofs.Common.{◌≡◌, ◌+◌, ◌≤◌, drop}
+use Rattle.std.proofs.Common.{◌≡◌, ◌+◌, drop}
 use Rattle.std.specs.List.{prefix_len}
 use Rattle.text_lexer.specs.Bytes.{is_name_byte}
 use Rattle.text_lexer.proofs.lexeme.name_bytes.Given as goal

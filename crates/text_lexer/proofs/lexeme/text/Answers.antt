@@ -12,9 +12,9 @@ returns-then-b-eq34-clause-found c =
 
 pub returns-then-i-rest-clause-none : goal.returns-then-i-rest-clause-none
 returns-then-i-rest-clause-none c = elim c.then-i-rest.branch [
-    | then-i-rest-via-then-i-rest w ↦ no_escape_at_end c.args.rest.now c.loop-i.i c.loop-i.invariant.1 c.requires.quoted (omega arith) (omega (arith, w.if-i-rest.true)) c.if-b-eq92.true
-    | then-i-rest-via-else-i-rest+then-not-is_escape w ↦ no_escape c.args.rest.now c.loop-i.i c.loop-i.invariant.1 c.requires.quoted (omega (arith, w.if-i-rest.false)) c.if-b-eq92.true (sym w.if-not-is_escape.ensures)
-  ]
+  | then-i-rest-via-then-i-rest w ↦ no_escape_at_end c.args.rest.now c.loop-i.i c.loop-i.invariant.1 c.requires.quoted (omega arith) (omega (arith, w.if-i-rest.true)) c.if-b-eq92.true
+  | then-i-rest-via-else-i-rest+then-not-is_escape w ↦ no_escape c.args.rest.now c.loop-i.i c.loop-i.invariant.1 c.requires.quoted (omega (arith, w.if-i-rest.false)) c.if-b-eq92.true (sym w.if-not-is_escape.ensures)
+]
 
 pub loop-i-preserved-then-b-eq92 : goal.loop-i-preserved-then-b-eq92
 loop-i-preserved-then-b-eq92 c =

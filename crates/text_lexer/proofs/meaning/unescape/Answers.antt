@@ -13,7 +13,7 @@ escaped-requires c =
     record { some = first.some; escape = first.escaped }
 
 pub range_from-rest-requires : goal.range_from-rest-requires
-range_from-rest-requires c = 
+range_from-rest-requires c =
     let parts = rw c.in-Some.is at (split_parts 92 c.loop-plain.rest.now c.split_once.result c.split_once.ensures.cases (omega arith)) in
     let first = escape_behind c.loop-plain.rest.now c.in-Some.plain.now c.in-Some.escape.now parts.0 parts.1 c.loop-plain.invariant.1 in
     let utf8 = utf8_behind c.loop-plain.rest.now c.in-Some.plain.now c.in-Some.escape.now c.loop-plain.invariant.0 parts.0 in

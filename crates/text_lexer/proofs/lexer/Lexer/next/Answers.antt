@@ -1,4 +1,4 @@
-use Rattle.std.proofs.Common.{refl, arith}
+use Rattle.std.proofs.Common.{refl}
 use Rattle.std.proofs.lemmas.List.{take_rest}
 use Rattle.text_lexer.proofs.Tokens.{token_stands, place_past_token}
 use Rattle.text_lexer.proofs.lexer.Lexer.next.Goals as goal
