@@ -4,7 +4,10 @@
 ghost use Rattle.std.specs.Prelude.{◌≡◌, IfOk};
 ghost use Rattle.plain_evaluation.specs.Page.{page_of};
 
+mod evaluation;
+
 use component_reader::Component;
+pub use evaluation::values_of;
 use std::alloc::Global;
 use values::NoMemory;
 
