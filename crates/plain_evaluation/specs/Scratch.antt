@@ -1,5 +1,5 @@
 -- Plain evaluation: the value of each id, by recursion over the text, with no graph and no cache.
-use Rattle.std.specs.Prelude.{ℕ, ◌==◌, if◌then◌else◌, List, [], ◌∷◌}
+use Rattle.std.specs.Prelude.{ℕ, ◌==◌, if◌then◌else◌, slice_index_or, List, [], ◌∷◌}
 use Rattle.values.specs.declared.code.Code.{Code}
 use Rattle.values.specs.declared.code.Code.TheVariants.{Empty}
 use Rattle.values.specs.Evaluation.{value_of}
@@ -14,6 +14,10 @@ use Rattle.component_reader.specs.declared.component.Item.TheFolds.{fold-Item}
 -- the value of each id
 abbrev pub Values : Type 0
 Values = ℕ → Code
+
+-- the values in a list by id; an id past its end has none
+abbrev pub code_at : List Code → Values
+code_at codes id = slice_index_or codes id Empty
 
 -- before the first item no id has a value
 abbrev pub no_values : Values

@@ -1,18 +1,8 @@
 //! Plain evaluation: the value of each id of a component and its page, straight from the text.
 #![tactic(auto)]
 
-ghost use Rattle.std.specs.Prelude.{◌≡◌, IfOk};
-ghost use Rattle.plain_evaluation.specs.Page.{page_of};
+mod evaluation;
+mod page;
 
-use component_reader::Component;
-use std::alloc::Global;
-use values::NoMemory;
-
-/// The bytes of the component's page.
-pub fn page_bytes(alloc: Global, component: &Component) -> Result<Vec<u8>, NoMemory>
-    ensures { IfOk result (λ bytes. bytes.items ≡ page_of component.now) }
-{
-    let _ = alloc;
-    let _ = component;
-    Err(NoMemory)
-}
+pub use evaluation::values_of;
+pub use page::page_bytes;

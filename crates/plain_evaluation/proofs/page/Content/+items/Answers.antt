@@ -1,0 +1,16 @@
+use Rattle.std.proofs.Common.{append_assoc, arith}
+use Rattle.std.proofs.lemmas.List.{append-nil}
+use Rattle.plain_evaluation.proofs.PageLemmas.{item_bytes-Signal, item_bytes-Memo, item_bytes-Element, item_bytes-Shown}
+use Rattle.plain_evaluation.proofs.page.Content.+items.Goals as goal
+
+pub put_item-returns-in-Signal : goal.put_item-returns-in-Signal
+put_item-returns-in-Signal t c = grind (arith, item_bytes-Signal, item_bytes-Memo, append-nil)
+
+pub put_item-returns-in-Signal-2 : goal.put_item-returns-in-Signal-2
+put_item-returns-in-Signal-2 t c = grind (arith, item_bytes-Signal, item_bytes-Memo, append-nil)
+
+pub put_item-returns-in-Shown : goal.put_item-returns-in-Shown
+put_item-returns-in-Shown t c = grind (arith, item_bytes-Shown)
+
+pub put_item-returns-in_ok-put_items-in-Element : goal.put_item-returns-in_ok-put_items-in-Element
+put_item-returns-in_ok-put_items-in-Element t c = grind (arith, item_bytes-Element, append_assoc)
