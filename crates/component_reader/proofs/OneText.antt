@@ -51,13 +51,13 @@ one_component bytes a b p q =
     let x = p.text in
     let y = q.text in
     let same = same_lists x.before y.before x.last y.last
-        (is_front x.before y.before x.last y.last x.tokens.leads x.tokens.given y.tokens.leads y.tokens.given y.tokens.last)
-        (is_front y.before x.before y.last x.last y.tokens.leads y.tokens.given x.tokens.leads x.tokens.given x.tokens.last) in
+    (is_front x.before y.before x.last y.last x.tokens.leads x.tokens.given y.tokens.leads y.tokens.given y.tokens.last)
+    (is_front y.before x.before y.last x.last y.tokens.leads y.tokens.given x.tokens.leads x.tokens.given x.tokens.last) in
     let read = subst (λ xs. Reads table (semantics bytes) text start xs [] x.end) same x.means in
     let ends = once.one_meaning table lookahead (semantics bytes) is_right terminal.End (y.before ++ y.last ∷ []) fits_text (inl closes) read y.means in
     same_component a b
-        (x.texts ∙ ap (λ (e : State). e.texts) ends ∙ sym y.texts)
-        (x.items ∙ ap (λ (e : State). top_list e.lists) ends ∙ sym y.items)
+    (x.texts ∙ ap (λ (e : State). e.texts) ends ∙ sym y.texts)
+    (x.items ∙ ap (λ (e : State). top_list e.lists) ends ∙ sym y.items)
 
 first_bad : (bytes : List ℕ) (xs earlier later : List Lexed) (x : Lexed) (why : Refusal) → xs ≡ earlier ++ x ∷ later
     → Refuses table (semantics bytes) text start earlier x why → IsFirstBad table (semantics bytes) text start xs why
@@ -68,8 +68,10 @@ one_refusal bytes a b p q = by_place (are_placed p.before q.before p.bad q.bad p
   where
     one : (xs : List Lexed) → IsFirstBad table (semantics bytes) text start xs a → IsFirstBad table (semantics bytes) text start xs b → a ≡ b
     one xs f g = once.one_first_bad table lookahead (semantics bytes) is_right xs a b fits_text f g
+
     longer : (xs ys more : List Lexed) (x y : Lexed) → ys ≡ xs ++ x ∷ more → ys ++ y ∷ [] ≡ xs ++ x ∷ (more ++ y ∷ [])
     longer xs ys more x y is = ap (λ l. l ++ y ∷ []) is ∙ append_assoc xs (x ∷ more) (y ∷ [])
+
     by_place : ArePlaced p.before p.bad q.before q.bad → a ≡ b
     by_place (same list token) = one (q.before ++ q.bad ∷ [])
         (first_bad bytes (q.before ++ q.bad ∷ []) p.before [] p.bad a (ap (λ l. l ++ q.bad ∷ []) (sym list) ∙ ap (λ x. p.before ++ x ∷ []) (sym token)) p.refuses)

@@ -74,10 +74,22 @@ fn texts_give_their_pages_in_pieces_of_any_size(rt: HostRuntime) -> Result<(), F
 #[test]
 fn faults_end_the_run(rt: HostRuntime) -> Result<(), Fail> {
     let (finish, bytes) = ran(&rt, FIRST, 1, &[], &[2])?;
-    assert_eq!(rt; finish, Finish { status: 6, outcome: Outcome::WriteFault });
+    assert_eq!(rt;
+        finish,
+        Finish {
+            status: 6,
+            outcome: Outcome::WriteFault
+        }
+    );
     assert_eq!(rt; bytes.as_slice(), b"<".as_slice());
     let (finish, bytes) = ran(&rt, FIRST, 100, &[1], &[])?;
-    assert_eq!(rt; finish, Finish { status: 5, outcome: Outcome::ReadFault });
+    assert_eq!(rt;
+        finish,
+        Finish {
+            status: 5,
+            outcome: Outcome::ReadFault
+        }
+    );
     assert_eq!(rt; bytes.as_slice(), b"read fault\n".as_slice());
     Ok(())
 }
@@ -85,7 +97,7 @@ fn faults_end_the_run(rt: HostRuntime) -> Result<(), Fail> {
 /// `component 1` with blanks up to so many bytes.
 fn padded(alloc: Global, len: usize) -> Result<String, Fail> {
     let mut text = String::from_str(alloc, "component 1")?;
-    while text.len() < len {
+    for _ in text.len()..len {
         text.push(' ')?;
     }
     Ok(text)
