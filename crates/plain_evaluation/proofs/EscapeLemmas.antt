@@ -1,5 +1,5 @@
 -- The bytes that an escaped text does not have.
-use Rattle.std.proofs.Common.{◌≡◌, ℕ, zero, suc, ◌<◌, Bool, true, false, ◌==◌, ◌||◌, codes, if◌then◌else◌, List, [], ◌∷◌, ◌++◌, length, get_or, Contains, inl, inr, refl, arith}
+use Rattle.std.proofs.Common.{◌≡◌, ℕ, zero, suc, ◌<◌, Bool, true, false, ◌==◌, codes, if◌then◌else◌, List, [], ◌∷◌, length, get_or, Contains, inl, inr, refl, arith}
 use Rattle.std.specs.List.{flat_map, list_any}
 use Rattle.std.proofs.lemmas.List.Elements.{Contains-append_cases}
 use Rattle.plain_evaluation.specs.Shown.{escaped_byte, escaped_value_byte, escaped}

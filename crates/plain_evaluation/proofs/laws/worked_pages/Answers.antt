@@ -1,5 +1,5 @@
 use Rattle.std.proofs.lemmas.Fmt.{decimal_digit}
-use Rattle.std.proofs.Common.{◌≡◌, ◌<◌, ◌^◌, [], ◌∷◌, arith}
+use Rattle.std.proofs.Common.{◌≡◌, [], ◌∷◌, arith}
 use Rattle.std.specs.Fmt.{decimal}
 use Rattle.plain_evaluation.proofs.PageLemmas.{item_bytes-Element, item_bytes-Shown}
 use Rattle.plain_evaluation.proofs.laws.worked_pages.Goals as goal
