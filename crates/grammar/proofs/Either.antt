@@ -1,6 +1,5 @@
--- A list of tokens that ends as texts do has a meaning or a first bad token.
-use Rattle.std.proofs.Common.{◌≡◌, ℕ, zero, suc, ◌<◌, Bool, true, false, not, ◌&&◌, nat_lt, List, [], ◌∷◌, ◌++◌, Option, Some, None, Result, Ok, Err, ◌⊎◌, inl, inr, refl, sym, subst, append_assoc, arith}
-use Rattle.std.specs.List.{list_all}
+-- A list of tokens whose last may end a text has a meaning or a first bad token.
+use Rattle.std.proofs.Common.{◌≡◌, ℕ, zero, suc, ◌<◌, Bool, true, false, not, nat_lt, List, [], ◌∷◌, ◌++◌, Option, Some, None, Result, Ok, Err, ◌⊎◌, inl, inr, refl, sym, subst, append_assoc, arith}
 use Rattle.std.proofs.lemmas.Bool.{ltb-true}
 use Rattle.grammar.specs.declared.symbol.Symbol.{Symbol}
 use Rattle.grammar.specs.declared.symbol.Symbol.TheVariants.{Terminal, Rule, Action}
@@ -14,7 +13,7 @@ use Rattle.grammar.specs.Descent.{goes_down, LeadsDown}
 use Rattle.grammar.specs.Ends.{lacks, rule_lacks, IsEndOf, IsEnded}
 use Rattle.grammar.proofs.Theory.{and_cases, and_both}
 use Rattle.grammar.proofs.Tests.{all_at, implied}
-use Rattle.grammar.proofs.Standing.{stands_start, stands_action, stands_rule, stands_terminal, refuses_check, refuses_terminal, refuses_rule}
+use Rattle.grammar.proofs.Standing.{stands_start, stands_action, stands_rule, stands_terminal, refuses_check, refuses_terminal, refuses_rule, refuses_empty}
 
 lacks_append : {W R D K : Type 0} (t : Table W R D K) (k : K) (p q : List (Symbol W R D)) → lacks t k p ≡ true → lacks t k q ≡ true → lacks t k (p ++ q) ≡ true
 lacks_append t k [] q e f = f
@@ -39,7 +38,7 @@ module _ {W R D K T S E : Type 0} (t : Table W R D K) (h : Lookahead W R K) (m :
   data Goes (done : List T) (x : T) : Type 0 where
     refused : {e : E} → Refuses t m start first done x e → Goes done x
     taken : (w : W) (rest : List (Symbol W R D)) {b : S} → t.matches w (m.kind x) ≡ true → lacks t k (Terminal w ∷ rest) ≡ true → ((y : T) → At (done ++ x ∷ []) y rest b) → Goes done x
-    ended : {b : S} → t.matches end (m.kind x) ≡ true → Means t m start first (done ++ x ∷ []) b → Goes done x
+    ended : {b : S} → ((y : T) → Stands t h m start first (done ++ x ∷ []) y [] b) → Goes done x
 
   -- at a terminal the token is refused, or the terminal takes it
   at_terminal : (done : List T) (x : T) (w : W) (rest : List (Symbol W R D)) (a : S) → Stands t h m start first done x (Terminal w ∷ rest) a
@@ -57,7 +56,7 @@ module _ {W R D K T S E : Type 0} (t : Table W R D K) (h : Lookahead W R K) (m :
   at_inner done x w rest a st none = at_terminal done x w (rest ++ Terminal end ∷ []) a st (λ b has next. taken w rest has none next)
 
   at_end : (done : List T) (x : T) (a : S) → At done x [] a → Goes done x
-  at_end done x a st = at_terminal done x end [] a st (λ b has next. ended has (next x).reads)
+  at_end done x a st = at_terminal done x end [] a st (λ b has next. ended next)
 
   -- one token is dealt with at this stack
   abbrev Settles : List T → T → List (Symbol W R D) → Type 0
@@ -113,25 +112,32 @@ module _ {W R D K T S E : Type 0} (t : Table W R D K) (h : Lookahead W R K) (m :
   abbrev Either : List T → Type 0
   Either xs = ((last : S) × Means t m start first xs last) ⊎ ((why : E) × IsFirstBad t m start first xs why)
 
-  pub either : (done before : List T) (x : T) (s : List (Symbol W R D)) (a : S) → m.kind x ≡ k → list_all (λ y. not (t.matches end (m.kind y))) before ≡ true
-      → ((y : T) → At done y s a) → lacks t k s ≡ true → Either (done ++ (before ++ x ∷ []))
-  either done [] x s a is_k alone st none = at_last (settles done x s a (st x) none)
+  bad_at : (done after : List T) (x : T) (e : E) → Refuses t m start first done x e → Either (done ++ x ∷ after)
+  bad_at done after x e bad = inr (e, record { before = done; bad = x; after = after; whole = refl; refuses = bad })
+
+  -- after the end each token is bad
+  bad_after : (done before : List T) (y x : T) (b : S) → ((z : T) → Stands t h m start first (done ++ y ∷ []) z [] b) → Either ((done ++ y ∷ []) ++ (before ++ x ∷ []))
+  bad_after done [] y x b st = bad_at (done ++ y ∷ []) [] x (m.unexpected x) (refuses_empty t h m right start first (st x))
+  bad_after done (z ∷ before) y x b st = bad_at (done ++ y ∷ []) (before ++ x ∷ []) z (m.unexpected z) (refuses_empty t h m right start first (st z))
+
+  pub either : (done before : List T) (x : T) (s : List (Symbol W R D)) (a : S) → m.kind x ≡ k → ((y : T) → At done y s a) → lacks t k s ≡ true → Either (done ++ (before ++ x ∷ []))
+  either done [] x s a is_k st none = at_last (settles done x s a (st x) none)
     where
       at_last : Goes done x → Either (done ++ x ∷ [])
-      at_last (refused {e = e} bad) = inr (e, record { before = done; bad = x; after = []; whole = refl; refuses = bad })
-      at_last (taken w rest has apart next) = absurd (never (t.matches w k) (and_cases (not (t.matches w k)) (lacks t k rest) apart).0 (subst (λ v. t.matches w v ≡ true) is_k has))
-      at_last (ended {b = b} has means) = inl (b, means)
-  either done (y ∷ before) x s a is_k alone st none =
-      let parts = and_cases (not (t.matches end (m.kind y))) (list_all (λ z. not (t.matches end (m.kind z))) before) alone in
-      at_next parts.0 (λ rest b next apart. either (done ++ y ∷ []) before x rest b is_k parts.1 next apart) (settles done y s a (st y) none)
+      at_last (refused {e = e} bad) = bad_at done [] x e bad
+      at_last (taken w rest {b = b} has apart next) =
+          absurd (never (t.matches w k) (and_cases (not (t.matches w k)) (lacks t k rest) apart).0 (subst (λ v. t.matches w v ≡ true) is_k has))
+      at_last (ended {b = b} next) = inl (b, (next x).reads)
+  either done (y ∷ before) x s a is_k st none =
+      at_next (λ rest b next apart. either (done ++ y ∷ []) before x rest b is_k next apart) (settles done y s a (st y) none)
     where
-      at_next : not (t.matches end (m.kind y)) ≡ true
-          → ((rest : List (Symbol W R D)) (b : S) → ((z : T) → At (done ++ y ∷ []) z rest b) → lacks t k rest ≡ true → Either ((done ++ y ∷ []) ++ (before ++ x ∷ [])))
+      on : Either ((done ++ y ∷ []) ++ (before ++ x ∷ [])) → Either (done ++ y ∷ (before ++ x ∷ []))
+      on e = subst (λ l. Either l) (append_assoc done (y ∷ []) (before ++ x ∷ [])) e
+      at_next : ((rest : List (Symbol W R D)) (b : S) → ((z : T) → At (done ++ y ∷ []) z rest b) → lacks t k rest ≡ true → Either ((done ++ y ∷ []) ++ (before ++ x ∷ [])))
           → Goes done y → Either (done ++ y ∷ (before ++ x ∷ []))
-      at_next lack further (refused {e = e} bad) = inr (e, record { before = done; bad = y; after = before ++ x ∷ []; whole = refl; refuses = bad })
-      at_next lack further (taken w rest {b = b} has apart next) =
-          subst (λ l. Either l) (append_assoc done (y ∷ []) (before ++ x ∷ [])) (further rest b next (and_cases (not (t.matches w k)) (lacks t k rest) apart).1)
-      at_next lack further (ended has means) = absurd (never (t.matches end (m.kind y)) lack has)
+      at_next further (refused {e = e} bad) = bad_at done (before ++ x ∷ []) y e bad
+      at_next further (taken w rest {b = b} has apart next) = on (further rest b next (and_cases (not (t.matches w k)) (lacks t k rest) apart).1)
+      at_next further (ended {b = b} next) = on (bad_after done before y x b next)
 
 pub one_of_both : {W R D K T S E : Type 0} (t : Table W R D K) (h : Lookahead W R K) (m : Semantics W D K T S E) → IsRight t h
     → (level : R → ℕ) → LeadsDown t h level → (start : List (Symbol W R D)) (end : W) (first : S) → Fits t h start → IsEndOf t end start
@@ -139,6 +145,6 @@ pub one_of_both : {W R D K T S E : Type 0} (t : Table W R D K) (h : Lookahead W 
 one_of_both t h m right level down start end first fits is_end xs is_ended =
     let k = m.kind is_ended.last in
     subst (λ l. ((last : _) × Means t m start first l last) ⊎ ((why : _) × IsFirstBad t m start first l why)) (sym is_ended.whole)
-    (either t h m right level down start first end k (is_end.inside k is_ended.ends) [] is_ended.before is_ended.last is_end.closes.inner first refl is_ended.alone
+    (either t h m right level down start first end k (is_end.inside k is_ended.ends) [] is_ended.before is_ended.last is_end.closes.inner first refl
     (λ y. subst (λ l. Stands t h m start first [] y l first) is_end.closes.whole (stands_start t h m right start first y fits))
     (is_end.before k is_ended.ends))

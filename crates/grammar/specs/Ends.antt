@@ -29,10 +29,9 @@ module _ {W R D K : Type 0} (t : Table W R D K) where
   abbrev pub is_apart : W → List (Symbol W R D) → List R → List K → Bool
   is_apart end inner rules kinds = list_all (λ k. implies (t.matches end k) (lacks k inner && list_all (rule_lacks k) rules)) kinds
 
--- the last token may stand for the end, and no other may
+-- the last token may stand for the end
 pub record IsEnded {W R D K T S E : Type 0} (t : Table W R D K) (m : Semantics W D K T S E) (end : W) (xs : List T) : Type 0 where
   pub before : List T
   pub last : T
   pub whole : xs ≡ before ++ last ∷ []
   pub ends : t.matches end (m.kind last) ≡ true
-  pub alone : list_all (λ x. not (t.matches end (m.kind x))) before ≡ true

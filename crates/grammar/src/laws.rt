@@ -53,7 +53,8 @@ pub fn refusal_is_unique<W, R, D, K, T, S, E>()
         → (xs : List T) (e f : E) → IsFirstBad t m start first xs e → IsFirstBad t m start first xs f → e ≡ f }
 {}
 
-/// Every list of tokens that ends as texts do has a meaning or a first bad token.
+/// Every list of tokens whose last may end a text has a meaning or a first bad token, where no rule leads back
+/// to itself before a token is taken.
 pub fn one_of_both<W, R, D, K, T, S, E>()
     ensures { (t : Table W R D K) (h : Lookahead W R K) (m : Semantics W D K T S E) → IsRight t h
         → (level : R → ℕ) → LeadsDown t h level
