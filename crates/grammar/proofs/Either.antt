@@ -48,6 +48,7 @@ module _ {W R D K T S E : Type 0} (t : Table W R D K) (h : Lookahead W R K) (m :
       by_accept : t.matches w (m.kind x) ≡ true → (o : Result S E) → m.accept w a x ≡ o → Goes done x
       by_accept has (Ok b) takes = on b has (stands_terminal t h m right start first st has takes)
       by_accept has (Err e) fails = refused (refuses_check t h m right start first st has fails)
+
       by_match : (b : Bool) → t.matches w (m.kind x) ≡ b → Goes done x
       by_match true has = by_accept has (m.accept w a x) refl
       by_match false none = refused (refuses_terminal t h m right start first st none)
@@ -89,8 +90,8 @@ module _ {W R D K T S E : Type 0} (t : Table W R D K) (h : Lookahead W R K) (m :
       let both = and_cases (nat_lt (level r) n) (implies (h.nullable r) (goes_down t h level n body)) e in
       let less : level r < n = ltb-true (level r) n both.0 in
       let further = λ (empty : h.nullable r ≡ true).
-          settles_with done x n lower body rest (implied (h.nullable r) (goes_down t h level n body) both.1 empty)
-          (λ more. after (and_both (h.nullable r) (is_nullable t h body) empty more)) in
+      settles_with done x n lower body rest (implied (h.nullable r) (goes_down t h level n body) both.1 empty)
+      (λ more. after (and_both (h.nullable r) (is_nullable t h body) empty more)) in
       at_rule done x r (body ++ rest) (λ first_body goes empty. lower first_body (body ++ rest) (level r) less goes (λ f. further (empty f))) a st none
 
   settles_below : (done : List T) (x : T) (n i : ℕ) → i < n → (body rest : List (Symbol W R D)) → goes_down t h level i body ≡ true
@@ -133,6 +134,7 @@ module _ {W R D K T S E : Type 0} (t : Table W R D K) (h : Lookahead W R K) (m :
     where
       on : Either ((done ++ y ∷ []) ++ (before ++ x ∷ [])) → Either (done ++ y ∷ (before ++ x ∷ []))
       on e = subst (λ l. Either l) (append_assoc done (y ∷ []) (before ++ x ∷ [])) e
+
       at_next : ((rest : List (Symbol W R D)) (b : S) → ((z : T) → At (done ++ y ∷ []) z rest b) → lacks t k rest ≡ true → Either ((done ++ y ∷ []) ++ (before ++ x ∷ [])))
           → Goes done y → Either (done ++ y ∷ (before ++ x ∷ []))
       at_next further (refused {e = e} bad) = bad_at done (before ++ x ∷ []) y e bad
