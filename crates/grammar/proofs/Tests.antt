@@ -152,3 +152,16 @@ listed xs all x = ((all x).0, numbered xs (all x).0 x (all x).1)
 -- what holds of all in a list that has each holds of each
 pub passes : {A : Type 0} (p : A → Bool) (xs : List A) → ListsAll xs → list_all p xs ≡ true → (x : A) → p x ≡ true
 passes p xs all e x = let at = listed xs all x in all_at p xs at.0 x e at.1
+
+-- symbols that nothing follows fit
+pub fits_alone : {W R D K : Type 0} (t : Table W R D K) (h : Lookahead W R K) (s : List (Symbol W R D)) → ((k : K) → follows t h s k false ≡ true) → Fits t h s
+fits_alone t h [] inside = tt
+fits_alone t h (Terminal w ∷ rest) inside = fits_alone t h rest inside
+fits_alone t h (Action d ∷ rest) inside = fits_alone t h rest inside
+fits_alone {K = K} t h (Rule r ∷ rest) inside =
+    let parts = λ (k : K). and_cases (implies (may_begin t h rest k || (is_nullable t h rest && false)) (h.follow r k)) (follows t h rest k false) (inside k) in (
+      (λ k b.
+          implied (may_begin t h rest k || (is_nullable t h rest && false)) (h.follow r k) (parts k).0
+          (or_left (may_begin t h rest k) (is_nullable t h rest && false) b)),
+      fits_alone t h rest (λ k. (parts k).1),
+    )

@@ -80,3 +80,7 @@ module _ {W R D K : Type 0} (t : Table W R D K) (h : Lookahead W R K) where
   -- the test, over all terminals: each has a kind
   abbrev pub has_samples : List W → Bool
   has_samples words = list_all (λ w. t.matches w (h.sample w)) words
+
+  -- the test, over all kinds: what stands after each rule of the symbols may follow it, and nothing follows them
+  abbrev pub follows_alone : List (Symbol W R D) → List K → Bool
+  follows_alone s kinds = list_all (λ k. follows s k false) kinds

@@ -4,7 +4,7 @@ ghost use Rattle.std.specs.Prelude.{◌≡◌, ◌⊎◌, ◌++◌, ◌∷◌, [
 ghost use Rattle.grammar.specs.declared.symbol.Symbol.{Symbol};
 ghost use Rattle.grammar.specs.declared.symbol.Symbol.TheVariants.{Terminal};
 ghost use Rattle.grammar.specs.Table.{Table};
-ghost use Rattle.grammar.specs.Lookahead.{Lookahead, ListsAll, is_predictive, has_samples};
+ghost use Rattle.grammar.specs.Lookahead.{Lookahead, ListsAll, is_predictive, has_samples, follows_alone};
 ghost use Rattle.grammar.specs.Machine.{Fits, IsRight};
 ghost use Rattle.grammar.specs.Decides.{TakesChosen, FollowsDerivations, NeverMisleads};
 ghost use Rattle.grammar.specs.Descent.{LeadsDown, leads_down};
@@ -12,11 +12,14 @@ ghost use Rattle.grammar.specs.Ends.{IsEndOf, IsEnded, is_apart};
 ghost use Rattle.grammar.specs.Semantics.{Semantics};
 ghost use Rattle.grammar.specs.Meaning.{Means, IsFirstBad, ClosesWith};
 
-/// Tests that compute over a table show what the other laws ask of it.
+/// Tests that compute over a table, with lists of its terminals, rules and kinds, show all that the other laws
+/// ask of it.
 pub fn tests_suffice<W, R, D, K>()
     ensures right { (t : Table W R D K) (h : Lookahead W R K)
         → (words : List W) (rules : List R) (kinds : List K) → ListsAll words → ListsAll rules → ListsAll kinds
         → has_samples t h words ≡ true → is_predictive t h rules kinds ≡ true → IsRight t h }
+    ensures fits { (t : Table W R D K) (h : Lookahead W R K) (start : List (Symbol W R D))
+        → (kinds : List K) → ListsAll kinds → follows_alone t h start kinds ≡ true → Fits t h start }
     ensures down { (t : Table W R D K) (h : Lookahead W R K) (level : R → ℕ)
         → (rules : List R) → ListsAll rules → leads_down t h level rules ≡ true → LeadsDown t h level }
     ensures end { (t : Table W R D K) (end : W) (inner : List (Symbol W R D))

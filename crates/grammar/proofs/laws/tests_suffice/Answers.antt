@@ -1,12 +1,12 @@
-use Rattle.std.proofs.Common.{◌≡◌, true, ◌&&◌, List, refl}
+use Rattle.std.proofs.Common.{◌≡◌, true, false, ◌&&◌, List, refl}
 use Rattle.std.specs.List.{list_all}
 use Rattle.grammar.specs.declared.symbol.Symbol.{Symbol}
 use Rattle.grammar.specs.Table.{Table}
-use Rattle.grammar.specs.Lookahead.{ListsAll, implies}
+use Rattle.grammar.specs.Lookahead.{ListsAll, implies, follows}
 use Rattle.grammar.specs.Descent.{rule_goes_down}
 use Rattle.grammar.specs.Ends.{lacks, rule_lacks, is_apart}
 use Rattle.grammar.proofs.Theory.{and_cases}
-use Rattle.grammar.proofs.Tests.{right_from, listed, passes, implied}
+use Rattle.grammar.proofs.Tests.{right_from, listed, passes, implied, fits_alone}
 use Rattle.grammar.proofs.laws.tests_suffice.Goals as goal
 
 is_apart_at : {W R D K : Type 0} (t : Table W R D K) (end : W) (inner : List (Symbol W R D)) (rules : List R) (kinds : List K) → ListsAll kinds → is_apart t end inner rules kinds ≡ true
@@ -19,6 +19,9 @@ is_apart_at t end inner rules kinds all_kinds e k has =
 pub returns-clause-right : goal.returns-clause-right
 returns-clause-right g c t h words rules kinds all_words all_rules all_kinds sampled predictive =
     right_from t h words rules kinds (listed words all_words) (listed rules all_rules) (listed kinds all_kinds) sampled predictive
+
+pub returns-clause-fits : goal.returns-clause-fits
+returns-clause-fits g c t h start kinds all_kinds e = fits_alone t h start (passes (λ k. follows t h start k false) kinds all_kinds e)
 
 pub returns-clause-down : goal.returns-clause-down
 returns-clause-down g c t h level rules all_rules e = passes (rule_goes_down t h level) rules all_rules e
