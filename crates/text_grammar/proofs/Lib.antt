@@ -1,0 +1,3 @@
+pub mod AllSeen
+pub mod ComponentRight
+pub mod ScriptRight

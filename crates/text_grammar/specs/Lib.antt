@@ -1,0 +1,6 @@
+pub mod Kind
+pub mod Class
+pub mod Component
+pub mod ComponentAhead
+pub mod Script
+pub mod ScriptAhead

@@ -1,0 +1,11 @@
+//! The grammars of component texts and of script texts, as tables of productions, and that one token of
+//! lookahead decides them.
+#![tactic(auto)]
+
+pub mod component;
+mod kind;
+mod laws;
+pub mod script;
+
+pub use kind::{Class, Kind, NoAction, Seen};
+pub use laws::{component_reads_by_one_token, script_reads_by_one_token};
