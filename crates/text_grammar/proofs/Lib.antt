@@ -1,3 +1,4 @@
 pub mod AllSeen
 pub mod ComponentRight
+pub mod Closed
 pub mod ScriptRight

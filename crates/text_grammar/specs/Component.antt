@@ -226,15 +226,3 @@ table = record { matches = matches; productions = productions }
 -- a whole text: a component, and then the end
 abbrev pub text : Symbols
 text = s.Rule rule.Component ∷ s.Terminal terminal.End ∷ []
-
--- ---- the texts alone
-
--- each element that is not void ends with its closing tag
-abbrev pub closed_productions : Rule → List Symbols
-closed_productions rule.ElementEnd =
-    (s.Terminal terminal.ClosingTag ∷ s.Terminal terminal.CloseTag ∷ s.Rule rule.CloseTagMore ∷ s.Terminal terminal.Greater ∷ []) ∷
-    []
-closed_productions r = productions r
-
-abbrev pub closed_table : Table Terminal Rule NoAction Seen
-closed_table = record { matches = matches; productions = closed_productions }

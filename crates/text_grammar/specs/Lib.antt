@@ -1,6 +1,7 @@
 pub mod Kind
 pub mod Class
 pub mod Component
+pub mod Closed
 pub mod ComponentAhead
 pub mod Script
 pub mod ScriptAhead

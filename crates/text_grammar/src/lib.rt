@@ -8,4 +8,4 @@ mod laws;
 pub mod script;
 
 pub use kind::{Class, Kind, NoAction, Seen};
-pub use laws::{component_reads_by_one_token, script_reads_by_one_token};
+pub use laws::{closers_add_no_text, component_reads_by_one_token, script_reads_by_one_token};
