@@ -1,16 +1,18 @@
 -- One token of lookahead decides the grammar of a component text.
-use Rattle.std.proofs.Common.{◌≡◌, ℕ, true, List, [], ◌∷◌, Some, refl}
+use Rattle.std.proofs.Common.{◌≡◌, ℕ, true, false, List, [], ◌∷◌, Some, refl}
 use Rattle.std.specs.List.{list_all}
 use Rattle.grammar.specs.Table.{production_at}
 use Rattle.grammar.specs.Lookahead.{is_predictive}
-use Rattle.grammar.specs.Machine.{IsRight}
+use Rattle.grammar.specs.Machine.{Fits, IsRight}
+use Rattle.grammar.proofs.Theory.{or_left}
 use Rattle.grammar.proofs.Tests.{right_from}
 use Rattle.text_grammar.specs.declared.component.Terminal.{Terminal}
 use Rattle.text_grammar.specs.declared.component.Terminal.TheVariants as terminal
 use Rattle.text_grammar.specs.declared.component.Rule.{Rule}
 use Rattle.text_grammar.specs.declared.component.Rule.TheVariants as rule
-use Rattle.text_grammar.specs.Component.{table}
+use Rattle.text_grammar.specs.Component.{table, matches, text}
 use Rattle.text_grammar.specs.ComponentAhead.{lookahead}
+use Rattle.text_grammar.specs.Closed.{closed_table}
 use Rattle.text_grammar.proofs.AllSeen.{all_seen, kind_at}
 
 abbrev all_terminals : List Terminal
@@ -129,3 +131,16 @@ rule_at rule.Literal = (24, refl)
 
 pub is_right : IsRight table lookahead
 is_right = right_from table lookahead all_terminals all_rules all_seen terminal_at rule_at kind_at sampled passes
+
+-- ---- and without the closer
+
+closed_passes : is_predictive closed_table lookahead all_rules all_seen ≡ true
+closed_passes = refl
+
+pub closed_is_right : IsRight closed_table lookahead
+closed_is_right = right_from closed_table lookahead all_terminals all_rules all_seen terminal_at rule_at kind_at sampled closed_passes
+
+-- ---- a whole text
+
+pub fits : Fits table lookahead text
+fits = (λ k ends. or_left (matches terminal.End k) false ends, tt)

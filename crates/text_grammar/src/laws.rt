@@ -3,12 +3,12 @@
 ghost use Rattle.std.specs.Prelude.{◌↔◌, List};
 ghost use Rattle.grammar.specs.Machine.{Fits, IsRight};
 ghost use Rattle.grammar.specs.Meaning.{Means};
-ghost use Rattle.grammar.specs.Semantics.{Semantics};
+ghost use Rattle.grammar.specs.Semantics.{Semantics, Refuses};
 ghost use Rattle.grammar.specs.Table.{Derives};
 ghost use Rattle.text_grammar.specs.declared.kind.Seen.{Seen};
 ghost use Rattle.text_grammar.specs.declared.kind.NoAction.{NoAction};
 ghost use Rattle.text_grammar.specs.declared.component.Terminal.{Terminal};
-ghost use Rattle.text_grammar.specs.Closed.{closed_table, RefusesClosers};
+ghost use Rattle.text_grammar.specs.Closed.{closed_table, RefusesClosers, IsUnclosed, RefusesAlike, GoesOnAlike};
 ghost use Rattle.text_grammar.specs.Component as component;
 ghost use Rattle.text_grammar.specs.ComponentAhead as component_ahead;
 ghost use Rattle.text_grammar.specs.Script as script;
@@ -17,6 +17,7 @@ ghost use Rattle.text_grammar.specs.ScriptAhead as script_ahead;
 /// One token of lookahead decides which production a component text takes next.
 pub fn component_reads_by_one_token()
     ensures right { IsRight component.table component_ahead.lookahead }
+    ensures closed_right { IsRight closed_table component_ahead.lookahead }
     ensures fits { Fits component.table component_ahead.lookahead component.text }
 {}
 
@@ -27,8 +28,17 @@ pub fn script_reads_by_one_token()
 {}
 
 /// The closer adds no text: where every closer is refused, a list of tokens means by the table what it
-/// means by the table without closers.
+/// means without the closer.
 pub fn closers_add_no_text<T, S, E>()
     ensures meaning { (m : Semantics Terminal NoAction Seen T S E) → RefusesClosers m → (xs : List T) (a b : S) → Means component.table m component.text a xs b ↔ Means closed_table m component.text a xs b }
     ensures contained { (ks : List Seen) → Derives closed_table component.text ks → Derives component.table component.text ks }
+{}
+
+/// The closer refuses no token but those that leave an element open, and each of these: where every closer
+/// is refused, the table refuses what is refused without the closer, but for a `}` or the end of the text
+/// where an element is still open.
+pub fn closers_leave_elements_open<T, S, E>()
+    ensures alike { (m : Semantics Terminal NoAction Seen T S E) → RefusesClosers m → (a : S) (before : List T) (x : T) (e : E) → RefusesAlike m a before x e }
+    ensures unclosed { (m : Semantics Terminal NoAction Seen T S E) (a : S) (before : List T) (x : T) (e : E) → IsUnclosed m a before x e → Refuses component.table m component.text a before x e }
+    ensures goes_on { (m : Semantics Terminal NoAction Seen T S E) (a : S) (before : List T) (x : T) → GoesOnAlike m a before x }
 {}
