@@ -144,3 +144,6 @@ closed_is_right = right_from closed_table lookahead all_terminals all_rules all_
 
 pub fits : Fits table lookahead text
 fits = (λ k ends. or_left (matches terminal.End k) false ends, tt)
+
+pub closed_fits : Fits closed_table lookahead text
+closed_fits = (λ k ends. or_left (matches terminal.End k) false ends, tt)

@@ -1,15 +1,16 @@
 -- One token of lookahead decides the grammar of a script text.
-use Rattle.std.proofs.Common.{◌≡◌, ℕ, true, List, [], ◌∷◌, Some, refl}
+use Rattle.std.proofs.Common.{◌≡◌, ℕ, true, false, List, [], ◌∷◌, Some, refl}
 use Rattle.std.specs.List.{list_all}
 use Rattle.grammar.specs.Table.{production_at}
 use Rattle.grammar.specs.Lookahead.{is_predictive}
-use Rattle.grammar.specs.Machine.{IsRight}
+use Rattle.grammar.specs.Machine.{Fits, IsRight}
+use Rattle.grammar.proofs.Theory.{or_left}
 use Rattle.grammar.proofs.Tests.{right_from}
 use Rattle.text_grammar.specs.declared.script.Terminal.{Terminal}
 use Rattle.text_grammar.specs.declared.script.Terminal.TheVariants as terminal
 use Rattle.text_grammar.specs.declared.script.Rule.{Rule}
 use Rattle.text_grammar.specs.declared.script.Rule.TheVariants as rule
-use Rattle.text_grammar.specs.Script.{table}
+use Rattle.text_grammar.specs.Script.{table, matches, text}
 use Rattle.text_grammar.specs.ScriptAhead.{lookahead}
 use Rattle.text_grammar.proofs.AllSeen.{all_seen, kind_at}
 
@@ -81,3 +82,8 @@ rule_at rule.Literal = (15, refl)
 
 pub is_right : IsRight table lookahead
 is_right = right_from table lookahead all_terminals all_rules all_seen terminal_at rule_at kind_at sampled passes
+
+-- ---- a whole text
+
+pub fits : Fits table lookahead text
+fits = (λ k ends. or_left (matches terminal.End k) false ends, tt)

@@ -5,3 +5,4 @@ pub mod Closed
 pub mod ComponentAhead
 pub mod Script
 pub mod ScriptAhead
+pub mod Worked
