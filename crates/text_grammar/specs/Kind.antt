@@ -16,11 +16,14 @@ void_tags = codes "area" ∷ codes "base" ∷ codes "br" ∷ codes "col" ∷ cod
 abbrev pub is_void_tag : List ℕ → Bool
 is_void_tag bytes = list_any (λ tag. bytes_eq tag bytes) void_tags
 
+abbrev pub is_one : List ℕ → Bool
+is_one bytes = bytes_eq (codes "1") bytes
+
 -- the kind of a token with these bytes
 abbrev pub kind_of_token : TokenKind → List ℕ → Kind
 kind_of_token token.Name bytes = if is_void_tag bytes then kind.VoidName else kind.Name
 kind_of_token (token.Reserved w) bytes = kind.Reserved w
-kind_of_token token.Number bytes = if bytes_eq (codes "1") bytes then kind.One else kind.Number
+kind_of_token token.Number bytes = if is_one bytes then kind.One else kind.Number
 kind_of_token token.Text bytes = kind.Text
 kind_of_token (token.Mark m) bytes = kind.Mark m
 kind_of_token token.End bytes = kind.End

@@ -1,6 +1,12 @@
 //! The symbols of the grammar of component texts. `docs/LANGUAGE.md` has the productions as a person
 //! reads them.
 
+ghost use Rattle.std.specs.Prelude.{◌≡◌};
+ghost use Rattle.text_grammar.specs.Component as spec;
+
+use crate::kind::{Class, Kind, Seen};
+use text_lexer::{Mark, Reserved};
+
 /// A token at its place in a component text.
 #[derive(Clone, Copy, Debug, Drop)]
 pub enum Terminal {
@@ -145,4 +151,83 @@ pub enum Rule {
     TermMore,
     Atom,
     Literal,
+}
+
+/// The tokens that may stand for the terminal.
+pub fn class_of(terminal: Terminal) -> Class
+    ensures { result ≡ spec.class_of terminal }
+{
+    match terminal {
+        Terminal::Component => Class::Only(Kind::Reserved(Reserved::Component)),
+        Terminal::Version => Class::Only(Kind::One),
+        Terminal::Signal => Class::Only(Kind::Reserved(Reserved::Signal)),
+        Terminal::Memo => Class::Only(Kind::Reserved(Reserved::Memo)),
+        Terminal::Effect => Class::Only(Kind::Reserved(Reserved::Effect)),
+        Terminal::Resource => Class::Only(Kind::Reserved(Reserved::Resource)),
+        Terminal::Load => Class::Only(Kind::Reserved(Reserved::Load)),
+        Terminal::Store => Class::Only(Kind::Reserved(Reserved::Store)),
+        Terminal::Cleanup => Class::Only(Kind::Reserved(Reserved::Cleanup)),
+        Terminal::Area => Class::Only(Kind::Reserved(Reserved::Area)),
+        Terminal::If | Terminal::ExpressionIf => Class::Only(Kind::Reserved(Reserved::If)),
+        Terminal::Each => Class::Only(Kind::Reserved(Reserved::Each)),
+        Terminal::Less => Class::Only(Kind::Mark(Mark::Less)),
+        Terminal::TextItem
+        | Terminal::CleanupText
+        | Terminal::TextKey
+        | Terminal::AttributeText
+        | Terminal::TextLiteral => Class::Only(Kind::Text),
+        Terminal::OpenShown | Terminal::OpenBlock | Terminal::OpenBrace => Class::Only(Kind::Mark(
+            Mark::OpenBrace,
+        )),
+        Terminal::NewName
+        | Terminal::NewArea
+        | Terminal::UsedResource
+        | Terminal::UsedStore
+        | Terminal::NewField
+        | Terminal::UsedName
+        | Terminal::RowField => Class::AnyName,
+        Terminal::Assign => Class::Only(Kind::Mark(Mark::Assign)),
+        Terminal::After => Class::Only(Kind::Reserved(Reserved::After)),
+        Terminal::AfterNumber
+        | Terminal::MaxNumber
+        | Terminal::NumberKey
+        | Terminal::NegatedKey
+        | Terminal::NumberLiteral
+        | Terminal::NegatedLiteral => Class::AnyNumber,
+        Terminal::Max => Class::Only(Kind::Reserved(Reserved::Max)),
+        Terminal::Arrow => Class::Only(Kind::Mark(Mark::Arrow)),
+        Terminal::OpenLoadKey | Terminal::OpenParen => Class::Only(Kind::Mark(Mark::OpenParen)),
+        Terminal::CloseLoadKey | Terminal::CloseParen => Class::Only(Kind::Mark(Mark::CloseParen)),
+        Terminal::CloseBlock | Terminal::CloseBrace => Class::Only(Kind::Mark(Mark::CloseBrace)),
+        Terminal::EmptyKey | Terminal::EmptyLiteral => Class::Only(Kind::Reserved(Reserved::Empty)),
+        Terminal::KeyMinus | Terminal::Minus | Terminal::LiteralMinus => Class::Only(Kind::Mark(
+            Mark::Minus,
+        )),
+        Terminal::OpenTag => Class::PlainTag,
+        Terminal::VoidTag => Class::VoidTag,
+        Terminal::Dash => Class::Dash,
+        Terminal::OpenTagPart | Terminal::AttributePart | Terminal::CloseTagPart => Class::Part,
+        Terminal::AttributeName | Terminal::CloseTag => Class::AnyTag,
+        Terminal::VoidSlash | Terminal::Slash => Class::Only(Kind::Mark(Mark::Slash)),
+        Terminal::Greater => Class::Only(Kind::Mark(Mark::Greater)),
+        Terminal::ClosingTag => Class::Only(Kind::Mark(Mark::ClosingTag)),
+        Terminal::Closer => Class::Closer,
+        Terminal::Then => Class::Only(Kind::Reserved(Reserved::Then)),
+        Terminal::Else => Class::Only(Kind::Reserved(Reserved::Else)),
+        Terminal::EqualTo => Class::Only(Kind::Mark(Mark::EqualTo)),
+        Terminal::LessThan => Class::Only(Kind::Reserved(Reserved::Lt)),
+        Terminal::Plus => Class::Only(Kind::Mark(Mark::Plus)),
+        Terminal::Star => Class::Only(Kind::Mark(Mark::Star)),
+        Terminal::Percent => Class::Only(Kind::Mark(Mark::Percent)),
+        Terminal::Row => Class::Only(Kind::Reserved(Reserved::Row)),
+        Terminal::Dot => Class::Only(Kind::Mark(Mark::Dot)),
+        Terminal::End => Class::Only(Kind::End),
+    }
+}
+
+/// Whether the token may stand for the terminal.
+pub fn matches(terminal: Terminal, token: Seen) -> bool
+    ensures { result ≡ spec.matches terminal token }
+{
+    class_of(terminal).contains(token)
 }

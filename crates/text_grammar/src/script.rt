@@ -1,6 +1,12 @@
 //! The symbols of the grammar of script texts. `docs/LANGUAGE.md` has the productions as a person reads
 //! them.
 
+ghost use Rattle.std.specs.Prelude.{◌≡◌};
+ghost use Rattle.text_grammar.specs.Script as spec;
+
+use crate::kind::{Class, Kind, Seen};
+use text_lexer::{Mark, Reserved};
+
 /// A token at its place in a script text.
 #[derive(Clone, Copy, Debug, Drop)]
 pub enum Terminal {
@@ -75,4 +81,51 @@ pub enum Rule {
     /// Where an `insert` puts the row.
     InsertPlace,
     Literal,
+}
+
+/// The tokens that may stand for the terminal.
+pub fn class_of(terminal: Terminal) -> Class
+    ensures { result ≡ spec.class_of terminal }
+{
+    match terminal {
+        Terminal::Phase => Class::Only(Kind::Reserved(Reserved::Phase)),
+        Terminal::Lane => Class::Only(Kind::Reserved(Reserved::Lane)),
+        Terminal::Set => Class::Only(Kind::Reserved(Reserved::Set)),
+        Terminal::Get => Class::Only(Kind::Reserved(Reserved::Get)),
+        Terminal::Pump => Class::Only(Kind::Reserved(Reserved::Pump)),
+        Terminal::Dispose => Class::Only(Kind::Reserved(Reserved::Dispose)),
+        Terminal::Insert => Class::Only(Kind::Reserved(Reserved::Insert)),
+        Terminal::Remove => Class::Only(Kind::Reserved(Reserved::Remove)),
+        Terminal::Move => Class::Only(Kind::Reserved(Reserved::Move)),
+        Terminal::SetName
+        | Terminal::GetName
+        | Terminal::AreaName
+        | Terminal::StoreName
+        | Terminal::RowField
+        | Terminal::InsertedField => Class::AnyName,
+        Terminal::Dot => Class::Only(Kind::Mark(Mark::Dot)),
+        Terminal::OpenBracket => Class::Only(Kind::Mark(Mark::OpenBracket)),
+        Terminal::CloseBracket => Class::Only(Kind::Mark(Mark::CloseBracket)),
+        Terminal::TextKey | Terminal::TextLiteral => Class::Only(Kind::Text),
+        Terminal::NumberKey
+        | Terminal::NegatedKey
+        | Terminal::PlaceNumber
+        | Terminal::NumberLiteral
+        | Terminal::NegatedLiteral => Class::AnyNumber,
+        Terminal::KeyMinus | Terminal::LiteralMinus => Class::Only(Kind::Mark(Mark::Minus)),
+        Terminal::Assign => Class::Only(Kind::Mark(Mark::Assign)),
+        Terminal::OpenBrace => Class::Only(Kind::Mark(Mark::OpenBrace)),
+        Terminal::CloseBrace => Class::Only(Kind::Mark(Mark::CloseBrace)),
+        Terminal::At => Class::Only(Kind::Reserved(Reserved::At)),
+        Terminal::To => Class::Only(Kind::Reserved(Reserved::To)),
+        Terminal::EmptyLiteral => Class::Only(Kind::Reserved(Reserved::Empty)),
+        Terminal::End => Class::Only(Kind::End),
+    }
+}
+
+/// Whether the token may stand for the terminal.
+pub fn matches(terminal: Terminal, token: Seen) -> bool
+    ensures { result ≡ spec.matches terminal token }
+{
+    class_of(terminal).contains(token)
 }
