@@ -12,3 +12,6 @@ pub use laws::{
     closers_add_no_text, closers_leave_elements_open, component_reads_by_one_token,
     script_reads_by_one_token, worked_texts,
 };
+
+#[cfg(test)]
+mod tests;
