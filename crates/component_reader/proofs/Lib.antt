@@ -2,3 +2,4 @@ pub mod Right
 pub mod Given
 pub mod Effort
 pub mod Steps
+pub mod OneText

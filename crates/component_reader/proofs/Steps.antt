@@ -54,8 +54,8 @@ last = s.Terminal terminal.End ∷ []
 end_follows : (k : Kind) → matches terminal.End k ≡ true → is_among (kind.End ∷ []) k ≡ true
 end_follows k e =
     elim (or_cases (number_of kind.End == number_of k) (takes_reserved terminal.End && nat_lt (number_of k) 4) e) [
-    | inl same ↦ or_left (number_of kind.End == number_of k) false same
-    | inr other ↦ cc
+      | inl same ↦ or_left (number_of kind.End == number_of k) false same
+      | inr other ↦ cc
     ]
 
 pub fits_text : Fits table lookahead text
@@ -178,6 +178,7 @@ not_last t x inner sees = by_kind x.kind refl
     kind_of_end : (t : Terminal) → is_end_terminal t ≡ false → matches t kind.End ≡ true → ⊥
     kind_of_end terminal.End e m = cc
     kind_of_end _ e m = cc
+
     by_kind : (k : TokenKind) → x.kind ≡ k → is_end x.kind ≡ false
     by_kind token.Name e = rw e refl
     by_kind (token.Reserved w) e = rw e refl
@@ -221,10 +222,13 @@ fewer_left now next x y t stack a r sees moved forward within = by_last (is_last
   where
     none : not (is_end_terminal t) ≡ true
     none = (and_cases (not (is_end_terminal t)) (has_no_end stack) r.no_end).0
+
     more : is_last (Ok x) ≡ false
     more = not_last t x (negated (is_end_terminal t) none) sees
+
     same : next.text ≡ now.text
     same = ap (λ (c : Cursor). c.text) moved ∙ text_past now y
+
     by_last : (b : Bool) → is_last y ≡ b → left next y < left now (Ok x)
     by_last true e = rw (e, more) (omega arith)
     by_last false e =
@@ -303,14 +307,17 @@ ends_text x sees = by_kind x.kind refl
   where
     other : (k : TokenKind) → x.kind ≡ k → matches terminal.End (kind_of_token k) ≡ true
     other k e = subst (λ k. matches terminal.End (kind_of_token k) ≡ true) e sees
+
     word_no : (w : Reserved) → matches terminal.End (kind_of_token (token.Reserved w)) ≡ true → ⊥
     word_no word.Component m = cc
     word_no word.Signal m = cc
     word_no word.Memo m = cc
     word_no _ m = cc
+
     mark_no : (w : Mark) → matches terminal.End (kind_of_token (token.Mark w)) ≡ true → ⊥
     mark_no mark.Star m = cc
     mark_no _ m = cc
+
     by_kind : (k : TokenKind) → x.kind ≡ k → is_end x.kind ≡ true
     by_kind token.Name e = let m = other token.Name e in cc
     by_kind (token.Reserved w) e = absurd (word_no w (other (token.Reserved w) e))
@@ -341,7 +348,7 @@ never_both bytes component e t bad = by_front (is_front bad.before t.before bad.
     by_front : IsFront bad.before bad.bad (t.before ++ t.last ∷ []) → ⊥
     by_front (front rest whole) =
         once.never_both table lookahead (semantics bytes) is_right bad.before rest bad.bad e fits_text
-            (subst (λ xs. Reads table (semantics bytes) text start xs [] t.end) whole t.means) bad.refuses
+        (subst (λ xs. Reads table (semantics bytes) text start xs [] t.end) whole t.means) bad.refuses
 
 pub refuses_all : (bytes : List ℕ) (e : Refusal) → IsFirstBadIn bytes e → (component : Component) → IsComponent bytes component → ⊥
 refuses_all bytes e bad component c = never_both bytes component e c.text bad

@@ -4,7 +4,6 @@ use Rattle.grammar.specs.declared.symbol.Symbol.{Symbol}
 use Rattle.grammar.specs.declared.symbol.Symbol.TheVariants as s
 use Rattle.grammar.specs.Table.{Table}
 use Rattle.text_lexer.specs.Tokens.{Lexed}
-
 use Rattle.text_lexer.specs.declared.token.TokenKind.{TokenKind}
 use Rattle.text_lexer.specs.declared.token.TokenKind.TheVariants as token
 use Rattle.text_lexer.specs.declared.token.Mark.{Mark}

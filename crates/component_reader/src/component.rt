@@ -25,9 +25,17 @@ pub type Items = items::Items<Item>;
 #[derive(Debug, Drop)]
 pub enum Item {
     /// A signal with its value at the start.
-    Signal { id: u32, name: u32, start: Code },
+    Signal {
+        id: u32,
+        name: u32,
+        start: Code,
+    },
     /// A memo, which has the value of its expression.
-    Memo { id: u32, name: u32, expr: Expr },
+    Memo {
+        id: u32,
+        name: u32,
+        expr: Expr,
+    },
     /// An element of the page. `closed` is false for a void element, which has no items.
     Element {
         tag: u32,
@@ -36,7 +44,10 @@ pub enum Item {
         items: Items,
     },
     /// The value of an expression, shown.
-    Shown { id: u32, expr: Expr },
+    Shown {
+        id: u32,
+        expr: Expr,
+    },
 }
 
 /// A component: its table of texts and its items.

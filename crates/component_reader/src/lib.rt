@@ -2,6 +2,7 @@
 #![tactic(auto)]
 
 mod component;
+mod laws;
 mod reader;
 mod refusal;
 mod scope;
@@ -9,5 +10,9 @@ mod state;
 mod table;
 
 pub use component::{Attr, Attrs, Component, Item, Items};
+pub use laws::{never_both, one_component, one_refusal};
 pub use reader::{MAX_BYTES, read_component};
 pub use refusal::{Count, Place, Refusal, Why};
+
+#[cfg(test)]
+mod tests;

@@ -51,6 +51,7 @@ const MAX_NODES: u32 = 4096;
 
 /// The greatest number of a literal, and the greatest one behind its `-`.
 const MAX_WHOLE: u32 = 2147483647;
+
 const MAX_NEGATED: u32 = 2147483648;
 
 /// The refusal of a token.
@@ -68,8 +69,19 @@ fn is_void_tag(name: &[u8]) -> bool
     ensures { result ≡ spec.is_tag_among spec.void_tags name.now }
 {
     match name {
-        b"area" | b"base" | b"br" | b"col" | b"embed" | b"hr" | b"img" | b"input" | b"link"
-        | b"meta" | b"source" | b"track" | b"wbr" => true,
+        b"area"
+        | b"base"
+        | b"br"
+        | b"col"
+        | b"embed"
+        | b"hr"
+        | b"img"
+        | b"input"
+        | b"link"
+        | b"meta"
+        | b"source"
+        | b"track"
+        | b"wbr" => true,
         _ => false,
     }
 }
@@ -327,7 +339,12 @@ impl State {
         Ok(())
     }
 
-    fn accept_open_tag(&mut self, alloc: Global, lexer: &Lexer<'_>, token: Token) -> Result<(), Refusal>
+    fn accept_open_tag(
+        &mut self,
+        alloc: Global,
+        lexer: &Lexer<'_>,
+        token: Token,
+    ) -> Result<(), Refusal>
         requires of_text { IsTokenOf lexer.now.text token }
         ensures { Accepts (spec.accept lexer.now.text Terminal.OpenTag self.old (Ok token)) result self.new }
     {
@@ -407,7 +424,12 @@ impl State {
                 let items = pop_list(alloc, &mut self.lists);
                 let tag = pop_number(&mut self.tags);
                 let attrs = Attrs::new(alloc);
-                let element = Item::Element { tag, closed: true, attrs, items };
+                let element = Item::Element {
+                    tag,
+                    closed: true,
+                    attrs,
+                    items,
+                };
                 add_item(alloc, &mut self.lists, element)
             }
         }
@@ -418,7 +440,11 @@ impl State {
         ensures texts { result.0 ≡ self.texts }
         ensures items { result.1 ≡ spec.top_list self.lists }
     {
-        let State { texts, mut lists, .. } = self;
+        let State {
+            texts,
+            mut lists,
+            ..
+        } = self;
         let items = pop_list(alloc, &mut lists);
         (texts, items)
     }

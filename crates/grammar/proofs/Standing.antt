@@ -94,3 +94,10 @@ module _ {W R D K T S E : Type 0} (t : Table W R D K) (h : Lookahead W R K) (m :
     pub refuses_rule : {before : List T} {x : T} {r : R} {rest : List (Symbol W R D)} {a : S} → Stands t h m start first before x (Rule r ∷ rest) a
         → production_at (t.productions r) (h.choice r (m.kind x)) ≡ None → Refuses t m start first before x (m.unexpected x)
     refuses_rule st none = by_grammar st.reads (λ begins. let found = rule_only (begins_on st begins).1 st.fits in let at = found.1 in cc)
+
+    nothing_only : {k : K} {ks : List K} → Derives t [] (k ∷ ks) → ⊥
+    nothing_only e = elim e [ ]
+
+    -- where nothing is left, no token may follow
+    pub refuses_empty : {before : List T} {x : T} {a : S} → Stands t h m start first before x [] a → Refuses t m start first before x (m.unexpected x)
+    refuses_empty st = by_grammar st.reads (λ begins. nothing_only (begins_on st begins).1)

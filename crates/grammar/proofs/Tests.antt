@@ -1,11 +1,11 @@
 -- Where the tests pass, the hints are right.
-use Rattle.std.proofs.Common.{◌≡◌, ℕ, zero, suc, ◌+◌, ◌<◌, Bool, true, false, ◌&&◌, ◌||◌, ◌==◌, nat_lt, List, [], ◌∷◌, ◌++◌, Option, Some, None, inl, inr, refl, subst, arith}
+use Rattle.std.proofs.Common.{◌≡◌, ℕ, zero, suc, ◌+◌, ◌<◌, Bool, true, false, ◌&&◌, ◌||◌, ◌==◌, nat_lt, List, [], ◌∷◌, ◌++◌, Option, Some, None, inl, inr, refl, subst, arith, slice_get}
 use Rattle.std.specs.List.{list_all}
 use Rattle.std.proofs.lemmas.Bool.{ltb-true, eqb-true}
 use Rattle.grammar.specs.declared.symbol.Symbol.{Symbol}
 use Rattle.grammar.specs.declared.symbol.Symbol.TheVariants.{Terminal, Rule, Action}
 use Rattle.grammar.specs.Table.{Table, production_at, Derives, done, terminal, rule, action}
-use Rattle.grammar.specs.Lookahead.{Lookahead, implies, may_begin, is_nullable, follows, production_is_right, productions_are_right, ranks_below, short_ends, rule_is_right, is_predictive}
+use Rattle.grammar.specs.Lookahead.{Lookahead, ListsAll, implies, may_begin, is_nullable, follows, production_is_right, productions_are_right, ranks_below, short_ends, rule_is_right, is_predictive}
 use Rattle.grammar.specs.Machine.{Fits, IsRight}
 use Rattle.grammar.proofs.Theory.{or_left, or_right, and_cases, and_both, begin_append}
 
@@ -16,7 +16,7 @@ all_at p (y ∷ xs) zero x h at =
     subst (λ z. p z ≡ true) same (and_cases (p y) (list_all p xs) h).0
 all_at p (y ∷ xs) (suc i) x h at = all_at p xs i x (and_cases (p y) (list_all p xs) h).1 at
 
-implied : (a b : Bool) → implies a b ≡ true → a ≡ true → b ≡ true
+pub implied : (a b : Bool) → implies a b ≡ true → a ≡ true → b ≡ true
 implied true b h e = h
 implied false b h e = cc
 
@@ -140,3 +140,28 @@ module _ {W R D K : Type 0} (t : Table W R D K) (h : Lookahead W R K) where
                 let same = eqb-true (h.choice r k) (0 + i) (implied (may_begin t h body k || (is_nullable t h body && h.follow r k)) (h.choice r k == (0 + i)) last.1 m) in
                 omega arith),
           )
+
+numbered : {A : Type 0} (xs : List A) (i : ℕ) (x : A) → slice_get xs i ≡ Some x → production_at xs i ≡ Some x
+numbered [] i x e = e
+numbered (y ∷ xs) zero x e = e
+numbered (y ∷ xs) (suc i) x e = numbered xs i x e
+
+pub listed : {A : Type 0} (xs : List A) → ListsAll xs → (x : A) → (i : ℕ) × (production_at xs i ≡ Some x)
+listed xs all x = ((all x).0, numbered xs (all x).0 x (all x).1)
+
+-- what holds of all in a list that has each holds of each
+pub passes : {A : Type 0} (p : A → Bool) (xs : List A) → ListsAll xs → list_all p xs ≡ true → (x : A) → p x ≡ true
+passes p xs all e x = let at = listed xs all x in all_at p xs at.0 x e at.1
+
+-- symbols that nothing follows fit
+pub fits_alone : {W R D K : Type 0} (t : Table W R D K) (h : Lookahead W R K) (s : List (Symbol W R D)) → ((k : K) → follows t h s k false ≡ true) → Fits t h s
+fits_alone t h [] inside = tt
+fits_alone t h (Terminal w ∷ rest) inside = fits_alone t h rest inside
+fits_alone t h (Action d ∷ rest) inside = fits_alone t h rest inside
+fits_alone {K = K} t h (Rule r ∷ rest) inside =
+    let parts = λ (k : K). and_cases (implies (may_begin t h rest k || (is_nullable t h rest && false)) (h.follow r k)) (follows t h rest k false) (inside k) in (
+      (λ k b.
+          implied (may_begin t h rest k || (is_nullable t h rest && false)) (h.follow r k) (parts k).0
+          (or_left (may_begin t h rest k) (is_nullable t h rest && false) b)),
+      fits_alone t h rest (λ k. (parts k).1),
+    )

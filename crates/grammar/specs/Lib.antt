@@ -4,3 +4,6 @@ pub mod Machine
 pub mod Semantics
 pub mod Stands
 pub mod Meaning
+pub mod Decides
+pub mod Descent
+pub mod Ends

@@ -1,5 +1,5 @@
 -- What one token of lookahead tells about a grammar, and the test that such a table of lookahead is right.
-use Rattle.std.specs.Prelude.{ℕ, suc, nat_lt, Bool, true, false, ◌&&◌, ◌||◌, not, ◌==◌, List, [], ◌∷◌, Option, Some, None}
+use Rattle.std.specs.Prelude.{◌≡◌, ℕ, suc, nat_lt, Bool, true, false, ◌&&◌, ◌||◌, not, ◌==◌, List, [], ◌∷◌, Option, Some, None, slice_get}
 use Rattle.std.specs.List.{list_all}
 use Rattle.grammar.specs.declared.symbol.Symbol.{Symbol}
 use Rattle.grammar.specs.declared.symbol.Symbol.TheVariants.{Terminal, Rule, Action}
@@ -16,6 +16,10 @@ pub record Lookahead (W R K : Type 0) : Type 0 where
   pub shortest : R → ℕ
   pub rank : R → ℕ
   pub sample : W → K
+
+-- each is in the list
+abbrev pub ListsAll : {A : Type 0} → List A → Type 0
+ListsAll {A = A} xs = (x : A) → (i : ℕ) × (slice_get xs i ≡ Some x)
 
 abbrev pub implies : Bool → Bool → Bool
 implies a b = not a || b
@@ -72,3 +76,11 @@ module _ {W R D K : Type 0} (t : Table W R D K) (h : Lookahead W R K) where
   -- the test, over all rules and kinds: one token of lookahead is enough
   abbrev pub is_predictive : List R → List K → Bool
   is_predictive rules kinds = list_all (rule_is_right kinds) rules
+
+  -- the test, over all terminals: each has a kind
+  abbrev pub has_samples : List W → Bool
+  has_samples words = list_all (λ w. t.matches w (h.sample w)) words
+
+  -- the test, over all kinds: what stands after each rule of the symbols may follow it, and nothing follows them
+  abbrev pub follows_alone : List (Symbol W R D) → List K → Bool
+  follows_alone s kinds = list_all (λ k. follows s k false) kinds

@@ -7,6 +7,8 @@ mod laws;
 mod stack;
 mod symbol;
 
-pub use laws::{meaning_is_unique, never_both, refusal_is_unique};
+pub use laws::{
+    lookahead_decides, meaning_is_unique, never_both, one_of_both, refusal_is_unique, tests_suffice,
+};
 pub use stack::Stack;
 pub use symbol::Symbol;

@@ -1,2 +1,4 @@
 pub mod ScratchLemmas
+pub mod IdsLemmas
 pub mod PageLemmas
+pub mod EscapeLemmas

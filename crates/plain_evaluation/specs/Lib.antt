@@ -1,3 +1,4 @@
 pub mod Scratch
+pub mod Ids
 pub mod Shown
 pub mod Page

@@ -1,5 +1,5 @@
 -- The page of a component: the bytes that it writes.
-use Rattle.std.specs.Prelude.{ℕ, Bool, true, false, if◌then◌else◌, codes, List, [], ◌∷◌, ◌++◌}
+use Rattle.std.specs.Prelude.{ℕ, Bool, true, false, codes, List, [], ◌∷◌, ◌++◌}
 use Rattle.std.specs.List.{flat_map}
 use Rattle.component_reader.specs.declared.component.Attr.{Attr}
 use Rattle.component_reader.specs.declared.component.Attr.TheVariants as attr

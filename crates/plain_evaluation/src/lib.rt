@@ -2,7 +2,11 @@
 #![tactic(auto)]
 
 mod evaluation;
+pub mod laws;
 mod page;
 
 pub use evaluation::values_of;
 pub use page::page_bytes;
+
+#[cfg(test)]
+mod tests;

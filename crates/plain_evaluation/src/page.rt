@@ -4,7 +4,7 @@ ghost use Rattle.std.specs.List.{flat_map};
 ghost use Rattle.std.specs.Fmt.{signed_decimal};
 ghost use Rattle.plain_evaluation.specs.Scratch.{code_at};
 ghost use Rattle.plain_evaluation.specs.Shown.{escaped, text_at, shown};
-ghost use Rattle.plain_evaluation.specs.Page.{attr_with, attr_bytes, opening, closing, item_bytes, items_bytes, page_of};
+ghost use Rattle.plain_evaluation.specs.Page.{attr_bytes, opening, closing, item_bytes, items_bytes, page_of};
 
 use crate::evaluation::{get, values_of};
 use component_reader::{Attr, Component, Item};

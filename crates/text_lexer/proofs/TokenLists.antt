@@ -76,3 +76,27 @@ is_front {c = c} {at = at} {end = end} (z ∷ xs) (u ∷ ys) x y p given q last 
   where
     next_front : u ≡ z → IsFront xs x (ys ++ y ∷ []) → IsFront (z ∷ xs) x (u ∷ (ys ++ y ∷ []))
     next_front same (front rest is) = front rest ((ap (λ v. v ∷ (ys ++ y ∷ [])) same) ∙ ap (λ l. z ∷ l) is)
+
+-- Two places of one text are one, or one comes before the other.
+pub data ArePlaced (xs : List Lexed) (x : Lexed) (ys : List Lexed) (y : Lexed) : Type 0 where
+  same : xs ≡ ys → x ≡ y → ArePlaced xs x ys y
+  before : (more : List Lexed) → ys ≡ xs ++ x ∷ more → ArePlaced xs x ys y
+  behind : (more : List Lexed) → xs ≡ ys ++ y ∷ more → ArePlaced xs x ys y
+
+pub are_placed : {c at end : Cursor} (xs ys : List Lexed) (x y : Lexed) → Leads c xs at → IsGiven at x → Leads c ys end → IsGiven end y → ArePlaced xs x ys y
+are_placed {c = c} [] [] x y p given q other =
+    same refl (one_given c x y (subst (λ v. IsGiven v x) (sym (none_led p)) given) (subst (λ v. IsGiven v y) (sym (none_led q)) other))
+are_placed {c = c} [] (z ∷ ys) x y p given q other =
+    before ys (ap (λ v. v ∷ ys) (one_given c z x (head_given q).0 (subst (λ v. IsGiven v x) (sym (none_led p)) given)))
+are_placed {c = c} (z ∷ xs) [] x y p given q other =
+    behind xs (ap (λ v. v ∷ xs) (one_given c z y (head_given p).0 (subst (λ v. IsGiven v y) (sym (none_led q)) other)))
+are_placed {c = c} {at = at} {end = end} (z ∷ xs) (u ∷ ys) x y p given q other =
+    let h = head_given p in
+    let k = head_given q in
+    let one = one_given c u z k.0 h.0 in
+    next one (are_placed xs ys x y h.2 given (subst (λ v. Leads (past c v) ys end) one k.2) other)
+  where
+    next : u ≡ z → ArePlaced xs x ys y → ArePlaced (z ∷ xs) x (u ∷ ys) y
+    next one (same a b) = same (ap (λ v. v ∷ xs) (sym one) ∙ ap (λ l. u ∷ l) a) b
+    next one (before more is) = before more (ap (λ v. v ∷ ys) one ∙ ap (λ l. z ∷ l) is)
+    next one (behind more is) = behind more (ap (λ v. v ∷ xs) (sym one) ∙ ap (λ l. u ∷ l) is)

@@ -12,4 +12,4 @@ returns-in-Ok-clause-due g c =
     let bytes = c.in_ok-bytes.bytes in
     let found = subst (λ b. IsAnswer b c.in-Ok.found.0 c.in-Ok.found.1.items) c.deref.ensures.value c.in-Ok.ensures in
     is_due (held before) (held after) (faults before) (faults after) bytes.items c.in-Ok.found.0 c.in-Ok.found.1.items c.in_ok-bytes.ensures.moved
-        (λ few. c.in_ok-bytes.ensures.whole (subst (λ n. n ≤ 65536) (sym bytes.ok.0) few)) found
+    (λ few. c.in_ok-bytes.ensures.whole (subst (λ n. n ≤ 65536) (sym bytes.ok.0) few)) found

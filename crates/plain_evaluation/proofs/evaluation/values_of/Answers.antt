@@ -1,5 +1,5 @@
-use Rattle.std.proofs.Common.{◌≡◌, [], ap, ◌∙◌, arith}
-use Rattle.plain_evaluation.specs.Scratch.{code_at, after_items, scratch}
+use Rattle.std.proofs.Common.{[], ap, ◌∙◌}
+use Rattle.plain_evaluation.specs.Scratch.{code_at, after_items}
 use Rattle.plain_evaluation.proofs.evaluation.values_of.Goals as goal
 
 pub returns : goal.returns

@@ -36,4 +36,4 @@ returns-clause-ok c =
     let sees : matches End (kind_of (Ok c.in-Ok.end)) ≡ true = ap (matches End) (sym c.kind_of.ensures) ∙ sym c.matches_kind.ensures ∙ c.if-not-matches_kind.false in
     let reading = subst (λ x. IsReading r.lexer x [] r.state) c.in-Ok.is c.requires.reading in
     at_end r.lexer c.in-Ok.end r.state c.accept.new.self (record { texts = c.finish-texts.result.0; items = c.finish-texts.result.1 }) reading sees c.in_ok-accept.ensures
-        c.finish-texts.ensures.texts c.finish-texts.ensures.items
+    c.finish-texts.ensures.texts c.finish-texts.ensures.items

@@ -22,5 +22,5 @@ returns-clause-reading c =
     let zero : c.new-lexer.result.at ≡ 0 = ap (λ (v : Cursor). v.at) first in
     let stack : c.push.new.self ≡ s.Rule Component ∷ [] = c.in_ok-push.ensures.ok ∙ ap (λ l. s.Rule Component ∷ l) c.new-stack.ensures in
     let reading = at_start now x (subst (λ v. IsGiven v x) begin next.given) (next.moved ∙ ap (λ v. past v x) begin)
-        (λ l. let h = next.forward l in omega arith) (next.within (omega arith)) in
+    (λ l. let h = next.forward l in omega arith) (next.within (omega arith)) in
     subst (λ p. IsReading now x p c.in_ok-state.state) (sym stack) (subst (λ a. IsReading now x (s.Rule Component ∷ []) a) (sym c.in_ok-state.ensures.start) reading)

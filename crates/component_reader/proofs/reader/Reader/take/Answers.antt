@@ -44,7 +44,7 @@ returns-clause-reading c =
     let e = c.next-self.ensures in
     let next = gives r.lexer c.next-self.new.self c.next-self.result e.token e.moved e.bad e.stays e.forward e.within e.takes_bytes in
     at_terminal r.lexer c.next-self.new.self c.in-Ok.token c.next-self.result c.args.terminal r.stack r.state c.accept.new.self reading sees c.in_ok-accept.ensures
-        next.given next.moved next.forward (next.within reading.within)
+    next.given next.moved next.forward (next.within reading.within)
 
 pub returns-clause-less : goal.returns-clause-less
 returns-clause-less c =
@@ -55,4 +55,4 @@ returns-clause-less c =
     let next = gives r.lexer c.next-self.new.self c.next-self.result e.token e.moved e.bad e.stays e.forward e.within e.takes_bytes in
     let fewer = fewer_left r.lexer c.next-self.new.self c.in-Ok.token c.next-self.result c.args.terminal r.stack r.state reading sees next.moved next.forward (next.within reading.within) in
     subst (λ x. effort c.next-self.new.self c.next-self.result r.stack < effort r.lexer x (Terminal c.args.terminal ∷ r.stack)) (sym c.in-Ok.is)
-        (less_terminal r.lexer c.next-self.new.self (Ok c.in-Ok.token) c.next-self.result c.args.terminal r.stack fewer)
+    (less_terminal r.lexer c.next-self.new.self (Ok c.in-Ok.token) c.next-self.result c.args.terminal r.stack fewer)
