@@ -1,0 +1,5 @@
+pub mod AllSeen
+pub mod ComponentRight
+pub mod Closed
+pub mod Runs
+pub mod ScriptRight

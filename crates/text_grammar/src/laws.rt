@@ -1,0 +1,60 @@
+//! What follows from the definitions alone.
+
+ghost use Rattle.std.specs.Prelude.{◌↔◌, List};
+ghost use Rattle.grammar.specs.Machine.{Fits, IsRight};
+ghost use Rattle.grammar.specs.Meaning.{Means};
+ghost use Rattle.grammar.specs.Semantics.{Semantics, Refuses};
+ghost use Rattle.grammar.specs.Table.{Begins, Derives};
+ghost use Rattle.text_grammar.specs.declared.kind.Seen.{Seen};
+ghost use Rattle.text_grammar.specs.declared.kind.NoAction.{NoAction};
+ghost use Rattle.text_grammar.specs.declared.component.Terminal.{Terminal};
+ghost use Rattle.text_grammar.specs.Worked as worked;
+ghost use Rattle.text_grammar.specs.Closed.{closed_table, RefusesClosers, IsUnclosed, RefusesAlike, GoesOnAlike};
+ghost use Rattle.text_grammar.specs.Component as component;
+ghost use Rattle.text_grammar.specs.ComponentAhead as component_ahead;
+ghost use Rattle.text_grammar.specs.Script as script;
+ghost use Rattle.text_grammar.specs.ScriptAhead as script_ahead;
+
+/// One token of lookahead decides which production a component text takes next.
+pub fn component_reads_by_one_token()
+    ensures right { IsRight component.table component_ahead.lookahead }
+    ensures closed_right { IsRight closed_table component_ahead.lookahead }
+    ensures fits { Fits component.table component_ahead.lookahead component.text }
+{}
+
+/// One token of lookahead decides which production a script text takes next.
+pub fn script_reads_by_one_token()
+    ensures right { IsRight script.table script_ahead.lookahead }
+    ensures fits { Fits script.table script_ahead.lookahead script.text }
+{}
+
+/// The closer adds no text: where every closer is refused, a list of tokens means by the table what it
+/// means without the closer.
+pub fn closers_add_no_text<T, S, E>()
+    ensures meaning { (m : Semantics Terminal NoAction Seen T S E) → RefusesClosers m → (xs : List T) (a b : S) → Means component.table m component.text a xs b ↔ Means closed_table m component.text a xs b }
+    ensures contained { (ks : List Seen) → Derives closed_table component.text ks → Derives component.table component.text ks }
+{}
+
+/// The closer refuses no token but those that leave an element open, and each of these: where every closer
+/// is refused, the table refuses what is refused without the closer, but for a `}` or the end of the text
+/// where an element is still open.
+pub fn closers_leave_elements_open<T, S, E>()
+    ensures alike { (m : Semantics Terminal NoAction Seen T S E) → RefusesClosers m → (a : S) (before : List T) (x : T) (e : E) → RefusesAlike m a before x e }
+    ensures unclosed { (m : Semantics Terminal NoAction Seen T S E) (a : S) (before : List T) (x : T) (e : E) → IsUnclosed m a before x e → Refuses component.table m component.text a before x e }
+    ensures goes_on { (m : Semantics Terminal NoAction Seen T S E) (a : S) (before : List T) (x : T) → GoesOnAlike m a before x }
+{}
+
+/// Some texts and some that are none, as the grammars have them.
+pub fn worked_texts()
+    ensures head { Derives closed_table component.text worked.head }
+    ensures shown_in_element { Derives closed_table component.text worked.shown_in_element }
+    ensures dashed_and_void_tags { Derives closed_table component.text worked.dashed_and_void_tags }
+    ensures expression { Derives closed_table component.text worked.expression }
+    ensures no_dash_apart { Begins component.table component.text worked.dash_apart → ⊥ }
+    ensures no_other_version { Begins component.table component.text worked.other_version → ⊥ }
+    ensures unclosed { Begins component.table component.text worked.unclosed }
+    ensures no_unclosed { Begins closed_table component.text worked.unclosed → ⊥ }
+    ensures set_field { Derives script.table script.text worked.set_field }
+    ensures edits { Derives script.table script.text worked.edits }
+    ensures no_disposed_row { Begins script.table script.text worked.disposed_row → ⊥ }
+{}
