@@ -57,7 +57,7 @@ pub enum Class {
 }
 
 /// The actions of the tables. There are none yet: they come with what a text means.
-#[derive(Clone, Copy, Debug, Drop)]
+#[derive(Clone, Copy, Drop)]
 pub enum NoAction {}
 
 /// How the grammars see what the lexer gave for its text.
