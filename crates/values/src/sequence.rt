@@ -49,18 +49,21 @@ impl<T> Sequence<T> {
         items
     }
 
+    /// How many items there are.
     pub fn len(&self) -> usize
         ensures { result ≡ length self.now }
     {
         self.items.len()
     }
 
+    /// Whether there is no item.
     pub fn is_empty(&self) -> bool
         ensures { IsTrue result ↔ (self.now ≡ []) }
     {
         self.items.is_empty()
     }
 
+    /// The item at a place counted from 0, or `None` at or past the end.
     pub fn at(&self, index: usize) -> Option<&T>
         ensures item { option_copied result ≡ slice_get self.now index }
         ensures within { IsSome result ↔ (index < length self.now) }
@@ -68,6 +71,7 @@ impl<T> Sequence<T> {
         self.items.get(index)
     }
 
+    /// The items, in order.
     pub fn as_slice(&self) -> &[T]
         ensures { result.now ≡ self.now }
     {

@@ -51,6 +51,7 @@ impl Texts {
         Ok(Texts { texts })
     }
 
+    /// How many texts the table holds, the empty one included.
     pub fn len(&self) -> usize
         ensures count { result ≡ length self.now }
         ensures table { IsTable self.now }
