@@ -1,7 +1,7 @@
 //! Why a text is refused, and where.
 
 ghost use Rattle.std.specs.Prelude.{◌≡◌};
-ghost use Rattle.component_reader.specs.Why.{number_of};
+ghost use Rattle.component_items.specs.Why.{number_of};
 
 use std::alloc::{AllocError, AllocFailed};
 
@@ -70,7 +70,7 @@ pub enum Refusal {
 
 impl From<AllocError> for Refusal {
     ghost use Rattle.std.specs.Prelude.{◌≡◌};
-    ghost use Rattle.component_reader.specs.declared.refusal.Refusal.TheVariants.{NoMemory};
+    ghost use Rattle.component_items.specs.declared.refusal.Refusal.TheVariants.{NoMemory};
 
     ghost from_gives = { λ _ e. e ≡ NoMemory };
 
@@ -81,7 +81,7 @@ impl From<AllocError> for Refusal {
 
 impl<T: Drop> From<AllocFailed<T>> for Refusal {
     ghost use Rattle.std.specs.Prelude.{◌≡◌};
-    ghost use Rattle.component_reader.specs.declared.refusal.Refusal.TheVariants.{NoMemory};
+    ghost use Rattle.component_items.specs.declared.refusal.Refusal.TheVariants.{NoMemory};
 
     ghost from_gives = { λ _ e. e ≡ NoMemory };
 

@@ -1,7 +1,7 @@
 -- The numbers of the reasons for which a text is refused.
 use Rattle.std.specs.Prelude.{ℕ}
-use Rattle.component_reader.specs.declared.refusal.Why.{Why}
-use Rattle.component_reader.specs.declared.refusal.Why.TheVariants.{BadUtf8, BadToken, Unexpected, UnknownName, NameTaken, WrongPlace, NumberRange, TooDeep, TooLarge, TooManyLanes, UnclosedTag}
+use Rattle.component_items.specs.declared.refusal.Why.{Why}
+use Rattle.component_items.specs.declared.refusal.Why.TheVariants.{BadUtf8, BadToken, Unexpected, UnknownName, NameTaken, WrongPlace, NumberRange, TooDeep, TooLarge, TooManyLanes, UnclosedTag}
 
 abbrev pub number_of : Why → ℕ
 number_of BadUtf8 = 1

@@ -1,0 +1,5 @@
+pub mod Why
+pub mod Ids
+pub mod Around
+pub mod Counts
+pub mod Kept
