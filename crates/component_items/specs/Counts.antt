@@ -1,5 +1,5 @@
 -- How many nodes the items of a component lay out in the worst case.
-use Rattle.std.specs.Prelude.{ℕ, ◌+◌, ◌*◌, ◌==◌, length, List, [], ◌∷◌, ◌++◌, if◌then◌else◌}
+use Rattle.std.specs.Prelude.{ℕ, ◌+◌, ◌*◌, ◌==◌, length, List, [], ◌∷◌, if◌then◌else◌}
 use Rattle.std.specs.List.{sum, sum_by}
 use Rattle.component_items.specs.declared.component.Attr.{Attr}
 use Rattle.component_items.specs.declared.component.Attr.TheVariants as attr

@@ -1,5 +1,5 @@
 -- What holds of each component that a text means. Each fact can be tried by itself.
-use Rattle.std.specs.Prelude.{◌≡◌, ℕ, suc, ◌+◌, ◌≤◌, ◌==◌, ◌&&◌, ◌||◌, not, nat_le, nat_lt, Bool, true, false, length, List, [], ◌∷◌, ◌++◌, Option, Some, None}
+use Rattle.std.specs.Prelude.{◌≡◌, ℕ, ◌+◌, ◌≤◌, ◌==◌, ◌&&◌, ◌||◌, not, nat_le, nat_lt, if◌then◌else◌, Bool, true, false, length, List, [], ◌∷◌, ◌++◌, Option, Some, None}
 use Rattle.std.specs.List.{list_all, list_any}
 use Rattle.values.specs.declared.code.Code.{Code}
 use Rattle.values.specs.declared.code.Code.TheVariants as code
@@ -113,10 +113,10 @@ item_stands = fold-Item (Standing → Bool) stands_step
 -- what an expression or item may name, with its id
 pub data Known : Type 0 where
   -- a signal, memo or load
-  value : ℕ → Known
-  resource : ℕ → Known
+  known_value : ℕ → Known
+  known_resource : ℕ → Known
   -- a store with its count of fields
-  store : ℕ → ℕ → Known
+  known_store : ℕ → ℕ → Known
 
 -- what is seen at a place, and the store whose `each` is around it
 pub record Sight : Type 0 where
@@ -124,20 +124,20 @@ pub record Sight : Type 0 where
   pub rows : Option Known
 
 abbrev pub is_value : ℕ → Known → Bool
-is_value id (value n) = n == id
+is_value id (known_value n) = n == id
 is_value id _ = false
 
 abbrev pub is_resource : ℕ → Known → Bool
-is_resource id (resource n) = n == id
+is_resource id (known_resource n) = n == id
 is_resource id _ = false
 
 abbrev pub is_store : ℕ → Known → Bool
-is_store id (store n fields) = n == id
+is_store id (known_store n fields) = n == id
 is_store id _ = false
 
 -- the key of the store or one of its fields
 abbrev pub is_part_of : ℕ → Option Known → Bool
-is_part_of id (Some (store n fields)) = nat_lt n id && nat_le id (n + 1 + fields)
+is_part_of id (Some (known_store n fields)) = nat_lt n id && nat_le id (n + 1 + fields)
 is_part_of id _ = false
 
 abbrev pub may_read : Sight → ℕ → Bool
@@ -164,16 +164,16 @@ see_all (one ∷ others) sight = one.is_right sight && see_all others (record si
 -- the store with the id, among what is seen
 abbrev pub store_among : ℕ → List Known → Option Known
 store_among id [] = None
-store_among id (store n fields ∷ known) = if n == id then Some (store n fields) else store_among id known
+store_among id (known_store n fields ∷ known) = if n == id then Some (known_store n fields) else store_among id known
 store_among id (_ ∷ known) = store_among id known
 
 abbrev pub sees_step : Item-F Seeing → Seeing
-sees_step (level.Signal id name start) = record { is_right = λ sight. true; declares = value id ∷ [] }
-sees_step (level.Memo id name expr) = record { is_right = sees_all_of expr; declares = value id ∷ [] }
+sees_step (level.Signal id name start) = record { is_right = λ sight. true; declares = known_value id ∷ [] }
+sees_step (level.Memo id name expr) = record { is_right = sees_all_of expr; declares = known_value id ∷ [] }
 sees_step (level.Effect id name expr) = record { is_right = sees_all_of expr; declares = [] }
-sees_step (level.Resource id name after keys values) = record { is_right = λ sight. true; declares = resource id ∷ [] }
-sees_step (level.Load id name resource key) = record { is_right = λ sight. list_any (is_resource resource) sight.known && sees_all_of key sight; declares = value id ∷ [] }
-sees_step (level.Store id name max fields starts) = record { is_right = λ sight. true; declares = store id (length fields) ∷ [] }
+sees_step (level.Resource id name after keys values) = record { is_right = λ sight. true; declares = known_resource id ∷ [] }
+sees_step (level.Load id name resource key) = record { is_right = λ sight. list_any (is_resource resource) sight.known && sees_all_of key sight; declares = known_value id ∷ [] }
+sees_step (level.Store id name max fields starts) = record { is_right = λ sight. true; declares = known_store id (length fields) ∷ [] }
 sees_step (level.Cleanup text) = record { is_right = λ sight. true; declares = [] }
 sees_step (level.Area id name owner items) = record { is_right = see_all items; declares = [] }
 sees_step (level.If id cond items) = record { is_right = λ sight. sees_all_of cond sight && see_all items sight; declares = [] }
