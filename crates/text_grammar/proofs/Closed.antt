@@ -6,7 +6,7 @@ use Rattle.grammar.specs.Machine.{Fits, Takes, takes_terminal, takes_rule, takes
 use Rattle.grammar.specs.Semantics.{Semantics, Reads, here, terminal as reads_one, rule as reads_by, action as reads_acts, Refuses, by_check, by_grammar}
 use Rattle.grammar.proofs.Theory.{choice_is, takes_from}
 use Rattle.text_grammar.specs.declared.kind.Seen.{Seen}
-use Rattle.text_grammar.specs.declared.kind.NoAction.{NoAction}
+use Rattle.text_grammar.specs.declared.component.Action.{Action}
 use Rattle.text_grammar.specs.declared.component.Terminal.{Terminal}
 use Rattle.text_grammar.specs.declared.component.Terminal.TheVariants as terminal
 use Rattle.text_grammar.specs.declared.component.Rule.{Rule}
@@ -51,7 +51,7 @@ derives_in_table (one has d) = one has (derives_in_table d)
 derives_in_table (by {r = r} {body = body} i at d) = by i (in_table r i body at) (derives_in_table d)
 derives_in_table (acts d) = acts (derives_in_table d)
 
-module _ {T S E : Type 0} (m : Semantics Terminal NoAction Seen T S E) where
+module _ {T S E : Type 0} (m : Semantics Terminal Action Seen T S E) where
   pub reads_in_table : {symbols out : Symbols} {xs : List T} {a b : S} → Reads closed_table m symbols a xs out b → Reads table m symbols a xs out b
   reads_in_table here = here
   reads_in_table (reads_one has takes go) = reads_one has takes (reads_in_table go)
@@ -172,7 +172,7 @@ module _ {T S E : Type 0} (m : Semantics Terminal NoAction Seen T S E) where
   by_terminal x has takes (inl d) = inl (d.0, one has d.1)
   by_terminal x has takes (inr found) = inr (found.0, found.1, reads_one has takes found.2, found.3)
 
-  by_action : {d : NoAction} {rest : Symbols} {a : S} {xs : List T} (x : T) → GoesOn rest (m.perform d a) xs x → GoesOn (s.Action d ∷ rest) a xs x
+  by_action : {d : Action} {rest : Symbols} {a : S} {xs : List T} (x : T) → GoesOn rest (m.perform d a) xs x → GoesOn (s.Action d ∷ rest) a xs x
   by_action x (inl d) = inl (d.0, acts d.1)
   by_action x (inr found) = inr (found.0, found.1, reads_acts found.2, found.3)
 
@@ -209,7 +209,7 @@ module _ {T S E : Type 0} (m : Semantics Terminal NoAction Seen T S E) where
   terminal_only : {w : Terminal} {rest : Symbols} {k : Seen} {ks : List Seen} → Derives table (s.Terminal w ∷ rest) (k ∷ ks) → Derives table rest ks
   terminal_only (one has d) = d
 
-  action_only : {d : NoAction} {rest : Symbols} {ks : List Seen} → Derives table (s.Action d ∷ rest) ks → Derives table rest ks
+  action_only : {d : Action} {rest : Symbols} {ks : List Seen} → Derives table (s.Action d ∷ rest) ks → Derives table rest ks
   action_only (acts d) = d
 
   rule_only : {r : Rule} {rest : Symbols} {k : Seen} {ks : List Seen} → Derives table (s.Rule r ∷ rest) (k ∷ ks) → Fits table lookahead (s.Rule r ∷ rest)
@@ -239,7 +239,7 @@ module _ {T S E : Type 0} (m : Semantics Terminal NoAction Seen T S E) where
       let same = some_same (production_at (productions r) i) found.0 body (subst (λ n. production_at (productions r) n ≡ Some found.0) chosen found.1) in_grammar in
       by_rule x i at (more (is_right.inner r i body in_grammar rest fits) ks (subst (λ v. Derives table (v ++ rest) (m.kind y ∷ (map m.kind xs ++ m.kind x ∷ ks))) same found.2))
 
-  leads_action : {d : NoAction} {rest : Symbols} {a : S} (x : T) (xs : List T) → Leads rest (m.perform d a) xs x → Leads (s.Action d ∷ rest) a xs x
+  leads_action : {d : Action} {rest : Symbols} {a : S} (x : T) (xs : List T) → Leads rest (m.perform d a) xs x → Leads (s.Action d ∷ rest) a xs x
   leads_action x xs more fits ks d = by_action x (more fits ks (action_only d))
 
   leads : {symbols out : Symbols} {xs : List T} {a b : S} (x : T) → Reads closed_table m symbols a xs out b → Leads symbols a xs x

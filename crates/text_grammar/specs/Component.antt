@@ -5,19 +5,21 @@ use Rattle.grammar.specs.declared.symbol.Symbol.TheVariants as s
 use Rattle.grammar.specs.Table.{Table}
 use Rattle.text_lexer.specs.declared.token.Mark.TheVariants as mark
 use Rattle.text_lexer.specs.declared.token.Reserved.TheVariants as word
+use Rattle.values.specs.declared.code.Op.TheVariants as op
 use Rattle.text_grammar.specs.declared.kind.Kind.TheVariants as kind
 use Rattle.text_grammar.specs.declared.kind.Seen.{Seen}
 use Rattle.text_grammar.specs.declared.kind.Class.{Class}
 use Rattle.text_grammar.specs.declared.kind.Class.TheVariants as class
-use Rattle.text_grammar.specs.declared.kind.NoAction.{NoAction}
 use Rattle.text_grammar.specs.declared.component.Terminal.{Terminal}
 use Rattle.text_grammar.specs.declared.component.Terminal.TheVariants as terminal
+use Rattle.text_grammar.specs.declared.component.Action.{Action}
+use Rattle.text_grammar.specs.declared.component.Action.TheVariants as action
 use Rattle.text_grammar.specs.declared.component.Rule.{Rule}
 use Rattle.text_grammar.specs.declared.component.Rule.TheVariants as rule
 use Rattle.text_grammar.specs.Class.{is_in, only_word, only_mark}
 
 abbrev pub Symbols : Type 0
-Symbols = List (Symbol Terminal Rule NoAction)
+Symbols = List (Symbol Terminal Rule Action)
 
 -- ---- the tokens that may stand for a terminal
 
@@ -106,23 +108,23 @@ productions rule.Component =
     (s.Terminal terminal.Component ∷ s.Terminal terminal.Version ∷ s.Rule rule.Items ∷ []) ∷
     []
 productions rule.Items =
-    (s.Terminal terminal.Signal ∷ s.Terminal terminal.NewName ∷ s.Terminal terminal.Assign ∷ s.Rule rule.Literal ∷ s.Rule rule.Items ∷ []) ∷
-    (s.Terminal terminal.Memo ∷ s.Terminal terminal.NewName ∷ s.Terminal terminal.Assign ∷ s.Rule rule.Expression ∷ s.Rule rule.Items ∷ []) ∷
-    (s.Terminal terminal.Effect ∷ s.Terminal terminal.NewName ∷ s.Terminal terminal.Assign ∷ s.Rule rule.Expression ∷ s.Rule rule.Items ∷ []) ∷
-    (s.Terminal terminal.Resource ∷ s.Terminal terminal.NewName ∷ s.Terminal terminal.After ∷ s.Terminal terminal.AfterNumber ∷ s.Terminal terminal.OpenBrace ∷ s.Rule rule.Pairs ∷ s.Terminal terminal.CloseBrace ∷ s.Rule rule.Items ∷ []) ∷
-    (s.Terminal terminal.Load ∷ s.Terminal terminal.NewName ∷ s.Terminal terminal.Assign ∷ s.Terminal terminal.UsedResource ∷ s.Terminal terminal.OpenLoadKey ∷ s.Rule rule.Expression ∷ s.Terminal terminal.CloseLoadKey ∷ s.Rule rule.Items ∷ []) ∷
-    (s.Terminal terminal.Store ∷ s.Terminal terminal.NewName ∷ s.Terminal terminal.Max ∷ s.Terminal terminal.MaxNumber ∷ s.Terminal terminal.OpenBrace ∷ s.Rule rule.Fields ∷ s.Terminal terminal.CloseBrace ∷ s.Rule rule.Items ∷ []) ∷
-    (s.Terminal terminal.Cleanup ∷ s.Terminal terminal.CleanupText ∷ s.Rule rule.Items ∷ []) ∷
-    (s.Terminal terminal.Area ∷ s.Terminal terminal.NewArea ∷ s.Terminal terminal.OpenBlock ∷ s.Rule rule.Items ∷ s.Terminal terminal.CloseBlock ∷ s.Rule rule.Items ∷ []) ∷
-    (s.Terminal terminal.If ∷ s.Rule rule.Expression ∷ s.Terminal terminal.OpenBlock ∷ s.Rule rule.Items ∷ s.Terminal terminal.CloseBlock ∷ s.Rule rule.Items ∷ []) ∷
-    (s.Terminal terminal.Each ∷ s.Terminal terminal.UsedStore ∷ s.Terminal terminal.OpenBlock ∷ s.Rule rule.Items ∷ s.Terminal terminal.CloseBlock ∷ s.Rule rule.Items ∷ []) ∷
+    (s.Terminal terminal.Signal ∷ s.Terminal terminal.NewName ∷ s.Terminal terminal.Assign ∷ s.Action action.BeginExpression ∷ s.Rule rule.Literal ∷ s.Action action.MakeSignal ∷ s.Rule rule.Items ∷ []) ∷
+    (s.Terminal terminal.Memo ∷ s.Terminal terminal.NewName ∷ s.Terminal terminal.Assign ∷ s.Action action.BeginExpression ∷ s.Rule rule.Expression ∷ s.Action action.MakeMemo ∷ s.Rule rule.Items ∷ []) ∷
+    (s.Terminal terminal.Effect ∷ s.Terminal terminal.NewName ∷ s.Terminal terminal.Assign ∷ s.Action action.BeginExpression ∷ s.Rule rule.Expression ∷ s.Action action.MakeEffect ∷ s.Rule rule.Items ∷ []) ∷
+    (s.Terminal terminal.Resource ∷ s.Terminal terminal.NewName ∷ s.Terminal terminal.After ∷ s.Terminal terminal.AfterNumber ∷ s.Terminal terminal.OpenBrace ∷ s.Action action.BeginEntries ∷ s.Rule rule.Pairs ∷ s.Terminal terminal.CloseBrace ∷ s.Action action.MakeResource ∷ s.Rule rule.Items ∷ []) ∷
+    (s.Terminal terminal.Load ∷ s.Terminal terminal.NewName ∷ s.Terminal terminal.Assign ∷ s.Terminal terminal.UsedResource ∷ s.Terminal terminal.OpenLoadKey ∷ s.Action action.BeginExpression ∷ s.Rule rule.Expression ∷ s.Terminal terminal.CloseLoadKey ∷ s.Action action.MakeLoad ∷ s.Rule rule.Items ∷ []) ∷
+    (s.Terminal terminal.Store ∷ s.Terminal terminal.NewName ∷ s.Terminal terminal.Max ∷ s.Terminal terminal.MaxNumber ∷ s.Terminal terminal.OpenBrace ∷ s.Action action.BeginEntries ∷ s.Rule rule.Fields ∷ s.Terminal terminal.CloseBrace ∷ s.Action action.MakeStore ∷ s.Rule rule.Items ∷ []) ∷
+    (s.Terminal terminal.Cleanup ∷ s.Terminal terminal.CleanupText ∷ s.Action action.MakeCleanup ∷ s.Rule rule.Items ∷ []) ∷
+    (s.Terminal terminal.Area ∷ s.Terminal terminal.NewArea ∷ s.Terminal terminal.OpenBlock ∷ s.Action action.OpenArea ∷ s.Rule rule.Items ∷ s.Terminal terminal.CloseBlock ∷ s.Action action.Close ∷ s.Rule rule.Items ∷ []) ∷
+    (s.Terminal terminal.If ∷ s.Action action.BeginExpression ∷ s.Rule rule.Expression ∷ s.Terminal terminal.OpenBlock ∷ s.Action action.OpenIf ∷ s.Rule rule.Items ∷ s.Terminal terminal.CloseBlock ∷ s.Action action.Close ∷ s.Rule rule.Items ∷ []) ∷
+    (s.Terminal terminal.Each ∷ s.Terminal terminal.UsedStore ∷ s.Terminal terminal.OpenBlock ∷ s.Action action.OpenEach ∷ s.Rule rule.Items ∷ s.Terminal terminal.CloseBlock ∷ s.Action action.Close ∷ s.Rule rule.Items ∷ []) ∷
     (s.Terminal terminal.Less ∷ s.Rule rule.Element ∷ s.Rule rule.Items ∷ []) ∷
-    (s.Terminal terminal.TextItem ∷ s.Rule rule.Items ∷ []) ∷
-    (s.Terminal terminal.OpenShown ∷ s.Rule rule.Expression ∷ s.Terminal terminal.CloseBrace ∷ s.Rule rule.Items ∷ []) ∷
+    (s.Terminal terminal.TextItem ∷ s.Action action.MakeText ∷ s.Rule rule.Items ∷ []) ∷
+    (s.Terminal terminal.OpenShown ∷ s.Action action.BeginExpression ∷ s.Rule rule.Expression ∷ s.Terminal terminal.CloseBrace ∷ s.Action action.MakeShown ∷ s.Rule rule.Items ∷ []) ∷
     [] ∷
     []
 productions rule.Pairs =
-    (s.Rule rule.Key ∷ s.Terminal terminal.Arrow ∷ s.Rule rule.Literal ∷ s.Rule rule.Pairs ∷ []) ∷
+    (s.Rule rule.Key ∷ s.Terminal terminal.Arrow ∷ s.Action action.BeginExpression ∷ s.Rule rule.Literal ∷ s.Action action.AddValue ∷ s.Rule rule.Pairs ∷ []) ∷
     [] ∷
     []
 productions rule.Key =
@@ -132,11 +134,11 @@ productions rule.Key =
     (s.Terminal terminal.KeyMinus ∷ s.Terminal terminal.NegatedKey ∷ []) ∷
     []
 productions rule.Fields =
-    (s.Terminal terminal.NewField ∷ s.Terminal terminal.Assign ∷ s.Rule rule.Literal ∷ s.Rule rule.Fields ∷ []) ∷
+    (s.Terminal terminal.NewField ∷ s.Terminal terminal.Assign ∷ s.Action action.BeginExpression ∷ s.Rule rule.Literal ∷ s.Action action.AddValue ∷ s.Rule rule.Fields ∷ []) ∷
     [] ∷
     []
 productions rule.Element =
-    (s.Terminal terminal.OpenTag ∷ s.Rule rule.OpenTagMore ∷ s.Rule rule.ElementRest ∷ []) ∷
+    (s.Terminal terminal.OpenTag ∷ s.Rule rule.OpenTagMore ∷ s.Action action.OpenElement ∷ s.Rule rule.ElementRest ∷ []) ∷
     (s.Terminal terminal.VoidTag ∷ s.Rule rule.VoidTagMore ∷ []) ∷
     []
 productions rule.OpenTagMore =
@@ -144,8 +146,8 @@ productions rule.OpenTagMore =
     [] ∷
     []
 productions rule.VoidTagMore =
-    (s.Terminal terminal.Dash ∷ s.Terminal terminal.OpenTagPart ∷ s.Rule rule.OpenTagMore ∷ s.Rule rule.ElementRest ∷ []) ∷
-    (s.Rule rule.Attributes ∷ s.Rule rule.VoidEnd ∷ []) ∷
+    (s.Terminal terminal.Dash ∷ s.Terminal terminal.OpenTagPart ∷ s.Rule rule.OpenTagMore ∷ s.Action action.OpenElement ∷ s.Rule rule.ElementRest ∷ []) ∷
+    (s.Action action.OpenVoid ∷ s.Rule rule.Attributes ∷ s.Rule rule.VoidEnd ∷ s.Action action.Close ∷ []) ∷
     []
 productions rule.VoidEnd =
     (s.Terminal terminal.VoidSlash ∷ s.Terminal terminal.Greater ∷ []) ∷
@@ -155,7 +157,7 @@ productions rule.ElementRest =
     (s.Rule rule.Attributes ∷ s.Terminal terminal.Greater ∷ s.Rule rule.Items ∷ s.Rule rule.ElementEnd ∷ []) ∷
     []
 productions rule.ElementEnd =
-    (s.Terminal terminal.ClosingTag ∷ s.Terminal terminal.CloseTag ∷ s.Rule rule.CloseTagMore ∷ s.Terminal terminal.Greater ∷ []) ∷
+    (s.Terminal terminal.ClosingTag ∷ s.Terminal terminal.CloseTag ∷ s.Rule rule.CloseTagMore ∷ s.Terminal terminal.Greater ∷ s.Action action.Close ∷ []) ∷
     (s.Terminal terminal.Closer ∷ []) ∷
     []
 productions rule.CloseTagMore =
@@ -163,7 +165,7 @@ productions rule.CloseTagMore =
     [] ∷
     []
 productions rule.Attributes =
-    (s.Terminal terminal.AttributeName ∷ s.Rule rule.AttributeMore ∷ s.Rule rule.AttributeValue ∷ s.Rule rule.Attributes ∷ []) ∷
+    (s.Terminal terminal.AttributeName ∷ s.Rule rule.AttributeMore ∷ s.Action action.NameAttribute ∷ s.Rule rule.AttributeValue ∷ s.Rule rule.Attributes ∷ []) ∷
     [] ∷
     []
 productions rule.AttributeMore =
@@ -172,46 +174,46 @@ productions rule.AttributeMore =
     []
 productions rule.AttributeValue =
     (s.Terminal terminal.Assign ∷ s.Rule rule.AssignedValue ∷ []) ∷
-    [] ∷
+    (s.Action action.MakeBare ∷ []) ∷
     []
 productions rule.AssignedValue =
-    (s.Terminal terminal.AttributeText ∷ []) ∷
-    (s.Terminal terminal.OpenShown ∷ s.Rule rule.Expression ∷ s.Terminal terminal.CloseBrace ∷ []) ∷
+    (s.Terminal terminal.AttributeText ∷ s.Action action.MakeFixed ∷ []) ∷
+    (s.Terminal terminal.OpenShown ∷ s.Action action.BeginExpression ∷ s.Rule rule.Expression ∷ s.Terminal terminal.CloseBrace ∷ s.Action action.MakeShownAttribute ∷ []) ∷
     []
 productions rule.Expression =
-    (s.Terminal terminal.ExpressionIf ∷ s.Rule rule.Expression ∷ s.Terminal terminal.Then ∷ s.Rule rule.Expression ∷ s.Terminal terminal.Else ∷ s.Rule rule.Expression ∷ []) ∷
+    (s.Terminal terminal.ExpressionIf ∷ s.Rule rule.Expression ∷ s.Terminal terminal.Then ∷ s.Rule rule.Expression ∷ s.Terminal terminal.Else ∷ s.Rule rule.Expression ∷ s.Action action.MakeIf ∷ []) ∷
     (s.Rule rule.Test ∷ []) ∷
     []
 productions rule.Test =
     (s.Rule rule.Sum ∷ s.Rule rule.TestMore ∷ []) ∷
     []
 productions rule.TestMore =
-    (s.Terminal terminal.EqualTo ∷ s.Rule rule.Sum ∷ []) ∷
-    (s.Terminal terminal.LessThan ∷ s.Rule rule.Sum ∷ []) ∷
+    (s.Terminal terminal.EqualTo ∷ s.Rule rule.Sum ∷ s.Action (action.MakeBinary op.Equal) ∷ []) ∷
+    (s.Terminal terminal.LessThan ∷ s.Rule rule.Sum ∷ s.Action (action.MakeBinary op.Less) ∷ []) ∷
     [] ∷
     []
 productions rule.Sum =
     (s.Rule rule.Term ∷ s.Rule rule.SumMore ∷ []) ∷
     []
 productions rule.SumMore =
-    (s.Terminal terminal.Plus ∷ s.Rule rule.Term ∷ s.Rule rule.SumMore ∷ []) ∷
-    (s.Terminal terminal.Minus ∷ s.Rule rule.Term ∷ s.Rule rule.SumMore ∷ []) ∷
+    (s.Terminal terminal.Plus ∷ s.Rule rule.Term ∷ s.Action (action.MakeBinary op.Add) ∷ s.Rule rule.SumMore ∷ []) ∷
+    (s.Terminal terminal.Minus ∷ s.Rule rule.Term ∷ s.Action (action.MakeBinary op.Sub) ∷ s.Rule rule.SumMore ∷ []) ∷
     [] ∷
     []
 productions rule.Term =
     (s.Rule rule.Atom ∷ s.Rule rule.TermMore ∷ []) ∷
     []
 productions rule.TermMore =
-    (s.Terminal terminal.Star ∷ s.Rule rule.Atom ∷ s.Rule rule.TermMore ∷ []) ∷
-    (s.Terminal terminal.Slash ∷ s.Rule rule.Atom ∷ s.Rule rule.TermMore ∷ []) ∷
-    (s.Terminal terminal.Percent ∷ s.Rule rule.Atom ∷ s.Rule rule.TermMore ∷ []) ∷
+    (s.Terminal terminal.Star ∷ s.Rule rule.Atom ∷ s.Action (action.MakeBinary op.Mul) ∷ s.Rule rule.TermMore ∷ []) ∷
+    (s.Terminal terminal.Slash ∷ s.Rule rule.Atom ∷ s.Action (action.MakeBinary op.Div) ∷ s.Rule rule.TermMore ∷ []) ∷
+    (s.Terminal terminal.Percent ∷ s.Rule rule.Atom ∷ s.Action (action.MakeBinary op.Rem) ∷ s.Rule rule.TermMore ∷ []) ∷
     [] ∷
     []
 productions rule.Atom =
     (s.Terminal terminal.UsedName ∷ []) ∷
     (s.Terminal terminal.Row ∷ s.Terminal terminal.Dot ∷ s.Terminal terminal.RowField ∷ []) ∷
     (s.Terminal terminal.OpenParen ∷ s.Rule rule.Expression ∷ s.Terminal terminal.CloseParen ∷ []) ∷
-    (s.Rule rule.Literal ∷ []) ∷
+    (s.Rule rule.Literal ∷ s.Action action.MakeLiteral ∷ []) ∷
     []
 productions rule.Literal =
     (s.Terminal terminal.EmptyLiteral ∷ []) ∷
@@ -220,7 +222,7 @@ productions rule.Literal =
     (s.Terminal terminal.LiteralMinus ∷ s.Terminal terminal.NegatedLiteral ∷ []) ∷
     []
 
-abbrev pub table : Table Terminal Rule NoAction Seen
+abbrev pub table : Table Terminal Rule Action Seen
 table = record { matches = matches; productions = productions }
 
 -- a whole text: a component, and then the end

@@ -9,15 +9,16 @@ use Rattle.text_grammar.specs.declared.kind.Kind.TheVariants as kind
 use Rattle.text_grammar.specs.declared.kind.Seen.{Seen}
 use Rattle.text_grammar.specs.declared.kind.Class.{Class}
 use Rattle.text_grammar.specs.declared.kind.Class.TheVariants as class
-use Rattle.text_grammar.specs.declared.kind.NoAction.{NoAction}
 use Rattle.text_grammar.specs.declared.script.Terminal.{Terminal}
 use Rattle.text_grammar.specs.declared.script.Terminal.TheVariants as terminal
+use Rattle.text_grammar.specs.declared.script.Action.{Action}
+use Rattle.text_grammar.specs.declared.script.Action.TheVariants as action
 use Rattle.text_grammar.specs.declared.script.Rule.{Rule}
 use Rattle.text_grammar.specs.declared.script.Rule.TheVariants as rule
 use Rattle.text_grammar.specs.Class.{is_in, only_word, only_mark}
 
 abbrev pub Symbols : Type 0
-Symbols = List (Symbol Terminal Rule NoAction)
+Symbols = List (Symbol Terminal Rule Action)
 
 -- ---- the tokens that may stand for a terminal
 
@@ -75,13 +76,13 @@ productions rule.Lanes =
     [] ∷
     []
 productions rule.Operations =
-    (s.Terminal terminal.Set ∷ s.Rule rule.SetPath ∷ s.Terminal terminal.Assign ∷ s.Rule rule.Literal ∷ s.Rule rule.Operations ∷ []) ∷
-    (s.Terminal terminal.Get ∷ s.Rule rule.GetPath ∷ s.Rule rule.Operations ∷ []) ∷
-    (s.Terminal terminal.Pump ∷ s.Rule rule.Operations ∷ []) ∷
-    (s.Terminal terminal.Dispose ∷ s.Rule rule.AreaPath ∷ s.Rule rule.Operations ∷ []) ∷
-    (s.Terminal terminal.Insert ∷ s.Rule rule.StorePath ∷ s.Rule rule.Key ∷ s.Terminal terminal.OpenBrace ∷ s.Rule rule.Fields ∷ s.Terminal terminal.CloseBrace ∷ s.Rule rule.InsertPlace ∷ s.Rule rule.Operations ∷ []) ∷
-    (s.Terminal terminal.Remove ∷ s.Rule rule.StorePath ∷ s.Rule rule.Key ∷ s.Rule rule.Operations ∷ []) ∷
-    (s.Terminal terminal.Move ∷ s.Rule rule.StorePath ∷ s.Rule rule.Key ∷ s.Terminal terminal.To ∷ s.Terminal terminal.PlaceNumber ∷ s.Rule rule.Operations ∷ []) ∷
+    (s.Terminal terminal.Set ∷ s.Action action.BeginPath ∷ s.Rule rule.SetPath ∷ s.Terminal terminal.Assign ∷ s.Rule rule.Literal ∷ s.Action action.MakeSet ∷ s.Rule rule.Operations ∷ []) ∷
+    (s.Terminal terminal.Get ∷ s.Action action.BeginPath ∷ s.Rule rule.GetPath ∷ s.Action action.MakeGet ∷ s.Rule rule.Operations ∷ []) ∷
+    (s.Terminal terminal.Pump ∷ s.Action action.MakePump ∷ s.Rule rule.Operations ∷ []) ∷
+    (s.Terminal terminal.Dispose ∷ s.Action action.BeginPath ∷ s.Rule rule.AreaPath ∷ s.Action action.MakeDispose ∷ s.Rule rule.Operations ∷ []) ∷
+    (s.Terminal terminal.Insert ∷ s.Action action.BeginPath ∷ s.Rule rule.StorePath ∷ s.Rule rule.Key ∷ s.Terminal terminal.OpenBrace ∷ s.Action action.BeginEntries ∷ s.Rule rule.Fields ∷ s.Terminal terminal.CloseBrace ∷ s.Rule rule.InsertPlace ∷ s.Action action.MakeInsert ∷ s.Rule rule.Operations ∷ []) ∷
+    (s.Terminal terminal.Remove ∷ s.Action action.BeginPath ∷ s.Rule rule.StorePath ∷ s.Rule rule.Key ∷ s.Action action.MakeRemove ∷ s.Rule rule.Operations ∷ []) ∷
+    (s.Terminal terminal.Move ∷ s.Action action.BeginPath ∷ s.Rule rule.StorePath ∷ s.Rule rule.Key ∷ s.Terminal terminal.To ∷ s.Terminal terminal.PlaceNumber ∷ s.Action action.MakeMove ∷ s.Rule rule.Operations ∷ []) ∷
     [] ∷
     []
 productions rule.SetPath =
@@ -120,7 +121,7 @@ productions rule.Key =
     (s.Terminal terminal.KeyMinus ∷ s.Terminal terminal.NegatedKey ∷ []) ∷
     []
 productions rule.Fields =
-    (s.Terminal terminal.InsertedField ∷ s.Terminal terminal.Assign ∷ s.Rule rule.Literal ∷ s.Rule rule.Fields ∷ []) ∷
+    (s.Terminal terminal.InsertedField ∷ s.Terminal terminal.Assign ∷ s.Rule rule.Literal ∷ s.Action action.AddValue ∷ s.Rule rule.Fields ∷ []) ∷
     [] ∷
     []
 productions rule.InsertPlace =
@@ -134,7 +135,7 @@ productions rule.Literal =
     (s.Terminal terminal.LiteralMinus ∷ s.Terminal terminal.NegatedLiteral ∷ []) ∷
     []
 
-abbrev pub table : Table Terminal Rule NoAction Seen
+abbrev pub table : Table Terminal Rule Action Seen
 table = record { matches = matches; productions = productions }
 
 -- a whole text: a script, and then the end

@@ -6,6 +6,7 @@ ghost use Rattle.text_grammar.specs.Component as spec;
 
 use crate::kind::{Class, Kind, Seen};
 use text_lexer::{Mark, Reserved};
+use values::Op;
 
 /// A token at its place in a component text.
 #[derive(Clone, Copy, Debug, Drop)]
@@ -151,6 +152,45 @@ pub enum Rule {
     TermMore,
     Atom,
     Literal,
+}
+
+/// What is made of what was read so far. No action refuses a text.
+#[derive(Clone, Copy, Debug, Drop)]
+pub enum Action {
+    /// An expression begins, or a literal that stands in none.
+    BeginExpression,
+    // of an item that has no items of its own
+    MakeSignal,
+    MakeMemo,
+    MakeEffect,
+    /// The entries of a resource or a store begin.
+    BeginEntries,
+    /// The literal is the value of the last key, or the start of the last field.
+    AddValue,
+    MakeResource,
+    MakeLoad,
+    MakeStore,
+    MakeCleanup,
+    MakeText,
+    MakeShown,
+    // of a block or an element
+    OpenArea,
+    OpenIf,
+    OpenEach,
+    OpenElement,
+    /// A void element is open until its `>`.
+    OpenVoid,
+    /// The innermost block or element that is open ends.
+    Close,
+    // of an attribute
+    NameAttribute,
+    MakeBare,
+    MakeFixed,
+    MakeShownAttribute,
+    // of an expression
+    MakeLiteral,
+    MakeBinary(Op),
+    MakeIf,
 }
 
 /// The tokens that may stand for the terminal.

@@ -56,10 +56,6 @@ pub enum Class {
     Closer,
 }
 
-/// The actions of the tables. There are none yet: they come with what a text means.
-#[derive(Clone, Copy, Drop)]
-pub enum NoAction {}
-
 /// How the grammars see what the lexer gave for its text.
 pub fn kind_of(lexer: &Lexer<'_>, token: Result<Token, BadToken>) -> Seen
     requires { IfOk token (λ x. IsTokenOf lexer.now.text x) }

@@ -6,7 +6,7 @@ ghost use Rattle.grammar.specs.Meaning.{Means};
 ghost use Rattle.grammar.specs.Semantics.{Semantics, Refuses};
 ghost use Rattle.grammar.specs.Table.{Begins, Derives};
 ghost use Rattle.text_grammar.specs.declared.kind.Seen.{Seen};
-ghost use Rattle.text_grammar.specs.declared.kind.NoAction.{NoAction};
+ghost use Rattle.text_grammar.specs.declared.component.Action.{Action};
 ghost use Rattle.text_grammar.specs.declared.component.Terminal.{Terminal};
 ghost use Rattle.text_grammar.specs.Worked as worked;
 ghost use Rattle.text_grammar.specs.Closed.{closed_table, RefusesClosers, IsUnclosed, RefusesAlike, GoesOnAlike};
@@ -31,7 +31,7 @@ pub fn script_reads_by_one_token()
 /// The closer adds no text: where every closer is refused, a list of tokens means by the table what it
 /// means without the closer.
 pub fn closers_add_no_text<T, S, E>()
-    ensures meaning { (m : Semantics Terminal NoAction Seen T S E) → RefusesClosers m → (xs : List T) (a b : S) → Means component.table m component.text a xs b ↔ Means closed_table m component.text a xs b }
+    ensures meaning { (m : Semantics Terminal Action Seen T S E) → RefusesClosers m → (xs : List T) (a b : S) → Means component.table m component.text a xs b ↔ Means closed_table m component.text a xs b }
     ensures contained { (ks : List Seen) → Derives closed_table component.text ks → Derives component.table component.text ks }
 {}
 
@@ -39,9 +39,9 @@ pub fn closers_add_no_text<T, S, E>()
 /// is refused, the table refuses what is refused without the closer, but for a `}` or the end of the text
 /// where an element is still open.
 pub fn closers_leave_elements_open<T, S, E>()
-    ensures alike { (m : Semantics Terminal NoAction Seen T S E) → RefusesClosers m → (a : S) (before : List T) (x : T) (e : E) → RefusesAlike m a before x e }
-    ensures unclosed { (m : Semantics Terminal NoAction Seen T S E) (a : S) (before : List T) (x : T) (e : E) → IsUnclosed m a before x e → Refuses component.table m component.text a before x e }
-    ensures goes_on { (m : Semantics Terminal NoAction Seen T S E) (a : S) (before : List T) (x : T) → GoesOnAlike m a before x }
+    ensures alike { (m : Semantics Terminal Action Seen T S E) → RefusesClosers m → (a : S) (before : List T) (x : T) (e : E) → RefusesAlike m a before x e }
+    ensures unclosed { (m : Semantics Terminal Action Seen T S E) (a : S) (before : List T) (x : T) (e : E) → IsUnclosed m a before x e → Refuses component.table m component.text a before x e }
+    ensures goes_on { (m : Semantics Terminal Action Seen T S E) (a : S) (before : List T) (x : T) → GoesOnAlike m a before x }
 {}
 
 /// Some texts and some that are none, as the grammars have them.

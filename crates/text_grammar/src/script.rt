@@ -83,6 +83,25 @@ pub enum Rule {
     Literal,
 }
 
+/// What is made of what was read so far. No action refuses a text.
+#[derive(Clone, Copy, Debug, Drop)]
+pub enum Action {
+    /// A path begins, at the top.
+    BeginPath,
+    /// The fields of an insert begin.
+    BeginEntries,
+    /// The literal is the value of the last field.
+    AddValue,
+    // of an operation
+    MakeSet,
+    MakeGet,
+    MakePump,
+    MakeDispose,
+    MakeInsert,
+    MakeRemove,
+    MakeMove,
+}
+
 /// The tokens that may stand for the terminal.
 pub fn class_of(terminal: Terminal) -> Class
     ensures { result ≡ spec.class_of terminal }
