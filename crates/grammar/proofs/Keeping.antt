@@ -1,8 +1,7 @@
 -- What each step keeps holds at the end.
-use Rattle.std.proofs.Common.{◌≡◌, ℕ, true, List, [], ◌∷◌, ◌++◌, Some, Ok}
+use Rattle.std.proofs.Common.{List}
 use Rattle.grammar.specs.declared.symbol.Symbol.{Symbol}
-use Rattle.grammar.specs.declared.symbol.Symbol.TheVariants.{Terminal, Rule, Action}
-use Rattle.grammar.specs.Table.{Table, production_at}
+use Rattle.grammar.specs.Table.{Table}
 use Rattle.grammar.specs.Semantics.{Semantics, Reads, here, terminal, rule, action}
 use Rattle.grammar.specs.Keeping.{Keeps, KeepsAlong}
 

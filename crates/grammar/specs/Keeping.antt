@@ -18,7 +18,7 @@ pub record KeepsAlong {W R D K T S E : Type 0} (t : Table W R D K) (m : Semantic
       → Q (Rule r ∷ rest) a → Q (body ++ rest) a
   pub action : (d : D) (rest : List (Symbol W R D)) (a : S) → Q (Action d ∷ rest) a → Q rest (m.perform d a)
 
--- The property of what each of these things shows. Every property P is one: it is shown by the pairs of a state
--- and a proof of P at it, each at its state.
+-- What some of these things shows, where each shows something of one state. Every property P can be given so, by
+-- the pairs of a state and a proof of P at it.
 abbrev pub IsShown : {G A : Type 0} → (G → A) → A → Type 0
 IsShown {G = G} of a = (g : G) × (of g ≡ a)

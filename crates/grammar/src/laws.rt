@@ -80,8 +80,8 @@ pub fn running_tells<W, R, D, K, T, S, E>()
         → (n : ℕ) (xs : List T) (why : E) → run t h m n start first xs ≡ refused why → IsFirstBad t m start first xs why }
 {}
 
-/// A property of states that each step keeps holds at the end if it holds at the start, also one that speaks of
-/// the symbols still to come. It is given by what shows it, as each property can be.
+/// A property of states that each step keeps holds at the end if it holds at the start, and so does one that
+/// speaks of the symbols still to come too. It is given by what shows it, as every property can be.
 pub fn what_is_kept_holds<W, R, D, K, T, S, E, G>()
     ensures reads { (t : Table W R D K) (m : Semantics W D K T S E) (of : G → S) → Keeps t m (IsShown of)
         → (s out : List (Symbol W R D)) (a b : S) (xs : List T) → Reads t m s a xs out b → IsShown of a → IsShown of b }
