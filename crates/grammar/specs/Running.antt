@@ -12,8 +12,8 @@ pub data Outcome (S E : Type 0) : Type 0 where
   refused : E → Outcome S E
   undecided : Outcome S E
 
--- What comes of the tokens in at most so many steps, by the productions that the lookahead chooses. Where the
--- tokens end before the symbols do, nothing is decided.
+-- What comes of the tokens in at most so many steps, by the productions that the lookahead chooses. Where no token
+-- is left for a terminal or a rule, nothing is decided.
 module _ {W R D K T S E : Type 0} (t : Table W R D K) (h : Lookahead W R K) (m : Semantics W D K T S E) where
   abbrev pub run : ℕ → List (Symbol W R D) → S → List T → Outcome S E
   run zero stack now xs = undecided
