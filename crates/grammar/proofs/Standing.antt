@@ -23,7 +23,7 @@ module _ {W R D K T S E : Type 0} (t : Table W R D K) (h : Lookahead W R K) (m :
   reads_terminal (rule i at go) has takes = rule i at (reads_terminal go has takes)
   reads_terminal (action go) has takes = action (reads_terminal go has takes)
 
-  reads_action : {d : D} {rest s : List (Symbol W R D)} {xs : List T} {a b : S} → Reads t m s a xs (Action d ∷ rest) b → Reads t m s a xs rest (m.perform d b)
+  pub reads_action : {d : D} {rest s : List (Symbol W R D)} {xs : List T} {a b : S} → Reads t m s a xs (Action d ∷ rest) b → Reads t m s a xs rest (m.perform d b)
   reads_action here = action here
   reads_action (terminal has takes go) = terminal has takes (reads_action go)
   reads_action (rule i at go) = rule i at (reads_action go)

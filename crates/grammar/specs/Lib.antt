@@ -7,3 +7,6 @@ pub mod Meaning
 pub mod Decides
 pub mod Descent
 pub mod Ends
+pub mod Running
+pub mod Keeping
+pub mod Ahead

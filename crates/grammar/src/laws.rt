@@ -1,6 +1,6 @@
 //! What holds of every grammar whose lookahead is right.
 
-ghost use Rattle.std.specs.Prelude.{◌≡◌, ◌⊎◌, ◌++◌, ◌∷◌, [], ℕ, true, List};
+ghost use Rattle.std.specs.Prelude.{◌≡◌, ◌⊎◌, ◌++◌, ◌∷◌, [], ℕ, suc, true, List, map, length, slice_get, Some};
 ghost use Rattle.grammar.specs.declared.symbol.Symbol.{Symbol};
 ghost use Rattle.grammar.specs.declared.symbol.Symbol.TheVariants.{Terminal};
 ghost use Rattle.grammar.specs.Table.{Table};
@@ -9,8 +9,11 @@ ghost use Rattle.grammar.specs.Machine.{Fits, IsRight};
 ghost use Rattle.grammar.specs.Decides.{TakesChosen, FollowsDerivations, NeverMisleads};
 ghost use Rattle.grammar.specs.Descent.{LeadsDown, leads_down};
 ghost use Rattle.grammar.specs.Ends.{IsEndOf, IsEnded, is_apart};
-ghost use Rattle.grammar.specs.Semantics.{Semantics};
+ghost use Rattle.grammar.specs.Semantics.{Semantics, Reads};
 ghost use Rattle.grammar.specs.Meaning.{Means, IsFirstBad, ClosesWith};
+ghost use Rattle.grammar.specs.Running.{run, read, refused};
+ghost use Rattle.grammar.specs.Keeping.{Keeps, KeepsAlong, IsShown};
+ghost use Rattle.grammar.specs.Ahead.{WithNext, with_next};
 
 /// Tests that compute over a table, with lists of its terminals, rules and kinds, show all that the other laws
 /// ask of it.
@@ -64,4 +67,36 @@ pub fn one_of_both<W, R, D, K, T, S, E>()
         → (start : List (Symbol W R D)) (end : W) (first : S) → Fits t h start → IsEndOf t end start
         → (xs : List T) → IsEnded t m end xs
         → ((last : S) × Means t m start first xs last) ⊎ ((why : E) × IsFirstBad t m start first xs why) }
+{}
+
+/// What the form that computes finds is so: the state that the tokens lead to, or why the first bad one is
+/// refused.
+pub fn running_tells<W, R, D, K, T, S, E>()
+    ensures read { (t : Table W R D K) (h : Lookahead W R K) (m : Semantics W D K T S E) → IsRight t h
+        → (start : List (Symbol W R D)) (first : S) → Fits t h start
+        → (n : ℕ) (xs : List T) (last : S) → run t h m n start first xs ≡ read last → Means t m start first xs last }
+    ensures refused { (t : Table W R D K) (h : Lookahead W R K) (m : Semantics W D K T S E) → IsRight t h
+        → (start : List (Symbol W R D)) (first : S) → Fits t h start
+        → (n : ℕ) (xs : List T) (why : E) → run t h m n start first xs ≡ refused why → IsFirstBad t m start first xs why }
+{}
+
+/// A property of states that each step keeps holds at the end if it holds at the start, and so does one that
+/// speaks of the symbols still to come too. It is given by what shows it, as every property can be.
+pub fn what_is_kept_holds<W, R, D, K, T, S, E, G>()
+    ensures reads { (t : Table W R D K) (m : Semantics W D K T S E) (of : G → S) → Keeps t m (IsShown of)
+        → (s out : List (Symbol W R D)) (a b : S) (xs : List T) → Reads t m s a xs out b → IsShown of a → IsShown of b }
+    ensures means { (t : Table W R D K) (m : Semantics W D K T S E) (of : G → S) → Keeps t m (IsShown of)
+        → (start : List (Symbol W R D)) (first last : S) (xs : List T) → Means t m start first xs last → IsShown of first → IsShown of last }
+    ensures along { (t : Table W R D K) (m : Semantics W D K T S E) (of : G → List (Symbol W R D) × S)
+        → KeepsAlong t m (λ stack now. IsShown of (stack, now))
+        → (s out : List (Symbol W R D)) (a b : S) (xs : List T) → Reads t m s a xs out b → IsShown of (s, a) → IsShown of (out, b) }
+{}
+
+/// Tokens with the next one: they are the tokens, each with the one behind it, the last with itself.
+pub fn next_ones<A>()
+    ensures tokens { (xs : List A) → map (λ (one : WithNext A). one.token) (with_next xs) ≡ xs }
+    ensures next { (xs : List A) (i : ℕ) (x y : A) → slice_get xs i ≡ Some x → slice_get xs (suc i) ≡ Some y
+        → slice_get (with_next xs) i ≡ Some (record { token = x; next = y }) }
+    ensures last { (before : List A) (x : A)
+        → slice_get (with_next (before ++ x ∷ [])) (length before) ≡ Some (record { token = x; next = x }) }
 {}
