@@ -1,0 +1,8 @@
+pub mod State
+pub mod Names
+pub mod Checks
+pub mod Effects
+pub mod Actions
+pub mod Meaning
+pub mod Component
+pub mod Computed

@@ -1,0 +1,7 @@
+//! What component texts mean, and the first bad token of those that mean nothing: definitions, and what
+//! follows from them.
+#![tactic(auto)]
+
+mod laws;
+
+pub use laws::one_component;
