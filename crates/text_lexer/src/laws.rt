@@ -1,5 +1,10 @@
 //! What follows from the definitions alone.
 
+ghost use Rattle.std.specs.Prelude.{◌≡◌, ℕ, ◌++◌, Bool, true, false, List, [], ◌∷◌, map, replicate, Option, Some, None, codes};
+ghost use Rattle.text_lexer.specs.declared.token.Mark.TheVariants as mark;
+ghost use Rattle.text_lexer.specs.declared.token.Reserved.TheVariants as reserved;
+ghost use Rattle.text_lexer.specs.declared.token.TokenKind.TheVariants as kind;
+ghost use Rattle.text_lexer.specs.Computed.{tokens_of, shown};
 ghost use Rattle.text_lexer.specs.Cursor.{Cursor};
 ghost use Rattle.text_lexer.specs.Lexing.{HasOneNext, HasOneBad, HasNeverBoth, HasSomeNext, HasOneTokenList};
 
@@ -14,4 +19,10 @@ pub fn one_next()
 /// A text has one token list.
 pub fn one_token_list()
     ensures { (cursor : Cursor) → HasOneTokenList cursor }
+{}
+
+/// Worked rows: the kind of each token, none where it is bad, and its line and column.
+pub fn worked_tokens()
+    ensures nothing { map shown (tokens_of (codes "") 1) ≡ (Some kind.End, 1, 1) ∷ [] }
+    ensures leading_zero { map shown (tokens_of (codes "7 007") 1) ≡ (Some kind.Number, 1, 1) ∷ (None, 1, 3) ∷ [] }
 {}
