@@ -2,6 +2,7 @@ pub mod Contents
 pub mod Lexemes
 pub mod Places
 pub mod Skipping
+pub mod Spelled
 pub mod Tokens
 pub mod Total
 pub mod Unique
