@@ -1,3 +1,4 @@
+pub mod AllTokens
 pub mod Contents
 pub mod Lexemes
 pub mod Places

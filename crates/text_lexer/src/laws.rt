@@ -1,11 +1,12 @@
 //! What follows from the definitions alone.
 
-ghost use Rattle.std.specs.Prelude.{◌≡◌, ℕ, ◌++◌, Bool, true, false, List, [], ◌∷◌, map, replicate, Option, Some, None, codes};
+ghost use Rattle.std.specs.Prelude.{◌≡◌, ℕ, ◌≤◌, List, [], ◌∷◌, length, map, replicate, Option, Some, None, codes};
 ghost use Rattle.text_lexer.specs.declared.token.Mark.TheVariants as mark;
 ghost use Rattle.text_lexer.specs.declared.token.Reserved.TheVariants as reserved;
 ghost use Rattle.text_lexer.specs.declared.token.TokenKind.TheVariants as kind;
-ghost use Rattle.text_lexer.specs.Computed.{tokens_of, shown};
-ghost use Rattle.text_lexer.specs.Cursor.{Cursor};
+ghost use Rattle.text_lexer.specs.Computed.{next_of, tokens_of, shown};
+ghost use Rattle.text_lexer.specs.Cursor.{Cursor, start_of};
+ghost use Rattle.text_lexer.specs.Tokens.{Lexed, IsGiven, IsTokenList};
 ghost use Rattle.text_lexer.specs.Lexing.{HasOneNext, HasOneBad, HasNeverBoth, HasSomeNext, HasOneTokenList};
 
 /// What comes next is one token or one bad token, and never both and never neither.
@@ -19,6 +20,14 @@ pub fn one_next()
 /// A text has one token list.
 pub fn one_token_list()
     ensures { (cursor : Cursor) → HasOneTokenList cursor }
+{}
+
+/// What is computed is what the relations say: what comes next, and all tokens of a text. And a cursor has
+/// one list of all tokens.
+pub fn tokens_compute()
+    ensures next { (cursor : Cursor) → cursor.at ≤ length cursor.text → IsGiven cursor (next_of cursor) }
+    ensures all { (text : List ℕ) (first_line : ℕ) → IsTokenList (start_of text first_line) (tokens_of text first_line) }
+    ensures one { (cursor : Cursor) (xs ys : List Lexed) → IsTokenList cursor xs → IsTokenList cursor ys → xs ≡ ys }
 {}
 
 /// Worked rows: the kind of each token, none where it is bad, and its line and column.
