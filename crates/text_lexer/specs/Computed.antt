@@ -133,3 +133,8 @@ tokens_of text first_line = tokens_from (suc (length text)) (start_of text first
 abbrev pub shown : Lexed → Option TokenKind × ℕ × ℕ
 shown (Ok token) = (Some token.kind, token.line, token.column)
 shown (Err bad) = (None, bad.line, bad.column)
+
+-- whether it stands right behind the token before it
+abbrev pub touches_before : Lexed → Bool
+touches_before (Ok token) = token.touches
+touches_before (Err bad) = false
