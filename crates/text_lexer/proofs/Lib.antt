@@ -1,7 +1,9 @@
+pub mod AllTokens
 pub mod Contents
 pub mod Lexemes
 pub mod Places
 pub mod Skipping
+pub mod Spelled
 pub mod Tokens
 pub mod Total
 pub mod Unique

@@ -14,78 +14,8 @@ use Rattle.text_lexer.specs.Cursor.{Cursor}
 use Rattle.text_lexer.specs.Lexing.{Skips, Lexes, done, more, after, HasOneNext, HasNeverBoth, HasOneTokenList}
 use Rattle.text_lexer.specs.Token.{reserved_bytes, mark_bytes, IsToken, IsLongest, IsTokenOf}
 use Rattle.text_lexer.proofs.Lexemes.{reserved_word, mark_first, word_first, digits_first, text_first, token_lexeme, letter_no_digit, letter_no_quote, letter_no_other, digit_no_quote, digit_no_other, quote_no_other}
+use Rattle.text_lexer.proofs.Spelled.{one_reserved, one_mark}
 use Rattle.text_lexer.proofs.Tokens.{end_or_not, longest_some}
-
--- whether two texts have the same bytes
-abbrev pub same_bytes : List ℕ → List ℕ → Bool
-same_bytes [] [] = true
-same_bytes [] (c ∷ cs) = false
-same_bytes (b ∷ bs) [] = false
-same_bytes (b ∷ bs) (c ∷ cs) = eqb b c && same_bytes bs cs
-
--- the reserved word and the mark that these bytes spell, if they spell one
-abbrev pub reserved_from : List ℕ → Reserved
-reserved_from bs = cond (same_bytes bs (codes "component")) Component (cond (same_bytes bs (codes "signal")) Signal (cond (same_bytes bs (codes "memo")) Memo (cond (same_bytes bs (codes "effect")) Effect (cond (same_bytes bs (codes "resource")) Resource (cond (same_bytes bs (codes "after")) After (cond (same_bytes bs (codes "load")) Load (cond (same_bytes bs (codes "store")) Store (cond (same_bytes bs (codes "max")) Max (cond (same_bytes bs (codes "cleanup")) Cleanup (cond (same_bytes bs (codes "area")) Area (cond (same_bytes bs (codes "if")) If (cond (same_bytes bs (codes "then")) Then (cond (same_bytes bs (codes "else")) Else (cond (same_bytes bs (codes "each")) Each (cond (same_bytes bs (codes "row")) Row (cond (same_bytes bs (codes "empty")) Empty (cond (same_bytes bs (codes "lt")) Lt (cond (same_bytes bs (codes "phase")) Phase (cond (same_bytes bs (codes "lane")) Lane (cond (same_bytes bs (codes "set")) Set (cond (same_bytes bs (codes "get")) Get (cond (same_bytes bs (codes "pump")) Pump (cond (same_bytes bs (codes "dispose")) Dispose (cond (same_bytes bs (codes "insert")) Insert (cond (same_bytes bs (codes "at")) At (cond (same_bytes bs (codes "remove")) Remove (cond (same_bytes bs (codes "move")) Move (To))))))))))))))))))))))))))))
-
-abbrev pub mark_from : List ℕ → Mark
-mark_from bs = cond (same_bytes bs (codes "</")) ClosingTag (cond (same_bytes bs (codes "==")) EqualTo (cond (same_bytes bs (codes "=>")) Arrow (cond (same_bytes bs (codes "=")) Assign (cond (same_bytes bs (codes "<")) Less (cond (same_bytes bs (codes ">")) Greater (cond (same_bytes bs (codes "/")) Slash (cond (same_bytes bs (codes "{")) OpenBrace (cond (same_bytes bs (codes "}")) CloseBrace (cond (same_bytes bs (codes "(")) OpenParen (cond (same_bytes bs (codes ")")) CloseParen (cond (same_bytes bs (codes "[")) OpenBracket (cond (same_bytes bs (codes "]")) CloseBracket (cond (same_bytes bs (codes ".")) Dot (cond (same_bytes bs (codes "+")) Plus (cond (same_bytes bs (codes "-")) Minus (cond (same_bytes bs (codes "*")) Star (Percent)))))))))))))))))
-
-pub reserved_back : (r : Reserved) → reserved_from (reserved_bytes r) ≡ r
-reserved_back Component = refl
-reserved_back Signal = refl
-reserved_back Memo = refl
-reserved_back Effect = refl
-reserved_back Resource = refl
-reserved_back After = refl
-reserved_back Load = refl
-reserved_back Store = refl
-reserved_back Max = refl
-reserved_back Cleanup = refl
-reserved_back Area = refl
-reserved_back If = refl
-reserved_back Then = refl
-reserved_back Else = refl
-reserved_back Each = refl
-reserved_back Row = refl
-reserved_back Empty = refl
-reserved_back Lt = refl
-reserved_back Phase = refl
-reserved_back Lane = refl
-reserved_back Set = refl
-reserved_back Get = refl
-reserved_back Pump = refl
-reserved_back Dispose = refl
-reserved_back Insert = refl
-reserved_back At = refl
-reserved_back Remove = refl
-reserved_back Move = refl
-reserved_back To = refl
-
-pub mark_back : (m : Mark) → mark_from (mark_bytes m) ≡ m
-mark_back ClosingTag = refl
-mark_back EqualTo = refl
-mark_back Arrow = refl
-mark_back Assign = refl
-mark_back Less = refl
-mark_back Greater = refl
-mark_back Slash = refl
-mark_back OpenBrace = refl
-mark_back CloseBrace = refl
-mark_back OpenParen = refl
-mark_back CloseParen = refl
-mark_back OpenBracket = refl
-mark_back CloseBracket = refl
-mark_back Dot = refl
-mark_back Plus = refl
-mark_back Minus = refl
-mark_back Star = refl
-mark_back Percent = refl
-
-one_reserved : (r s : Reserved) → reserved_bytes r ≡ reserved_bytes s → r ≡ s
-one_reserved r s e = sym (reserved_back r) ∙ (ap reserved_from e ∙ reserved_back s)
-
-one_mark : (m n : Mark) → mark_bytes m ≡ mark_bytes n → m ≡ n
-one_mark m n e = sym (mark_back m) ∙ (ap mark_from e ∙ mark_back n)
 
 pub one_skip : (text : List ℕ) (from a b : ℕ) → Skips text from a → Skips text from b → a ≡ b
 one_skip text from a b s t =

@@ -1,4 +1,5 @@
 pub mod Bytes
+pub mod Computed
 pub mod Cursor
 pub mod Lexing
 pub mod Place

@@ -1,5 +1,5 @@
 -- The tokens of a whole text: what the lexer gives for it, up to its end or to the first bad token.
-use Rattle.std.specs.Prelude.{◌≡◌, ℕ, Bool, true, false, List, [], ◌∷◌, Result, Ok, Err}
+use Rattle.std.specs.Prelude.{◌≡◌, ℕ, Bool, true, false, List, [], ◌∷◌, ◌++◌, Result, Ok, Err}
 use Rattle.text_lexer.specs.declared.token.BadToken.{BadToken}
 use Rattle.text_lexer.specs.declared.token.Token.{Token}
 use Rattle.text_lexer.specs.Cursor.{Cursor}
@@ -35,3 +35,10 @@ pub record AreTokens (cursor : Cursor) (before : List Lexed) (x : Lexed) : Type 
   pub leads : Leads cursor before at
   pub given : IsGiven at x
   pub last : is_last x ≡ true
+
+-- the same as one list: all tokens from the cursor on, the last with them
+pub record IsTokenList (cursor : Cursor) (tokens : List Lexed) : Type 0 where
+  pub before : List Lexed
+  pub last : Lexed
+  pub parts : tokens ≡ before ++ last ∷ []
+  pub are : AreTokens cursor before last

@@ -15,7 +15,7 @@ mod lexer;
 mod meaning;
 mod token;
 
-pub use laws::{one_next, one_token_list};
+pub use laws::{one_next, one_token_list, tokens_compute, worked_tokens};
 pub use lexer::Lexer;
 pub use token::{BadToken, Mark, Reserved, Token, TokenKind};
 
