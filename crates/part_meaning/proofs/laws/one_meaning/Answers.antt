@@ -1,0 +1,5 @@
+use Rattle.part_meaning.proofs.Once as once
+use Rattle.part_meaning.proofs.laws.one_meaning.Goals as goal
+
+pub returns : goal.returns
+returns g c l d bytes a b p q = once.one_meaning l d bytes a b p q
