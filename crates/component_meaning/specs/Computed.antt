@@ -1,28 +1,32 @@
 -- What a text means, or why it is refused, in a form that computes.
-use Rattle.std.specs.Prelude.{ℕ, ◌+◌, ◌*◌, if◌then◌else◌, List, length}
-use Rattle.std.specs.Str.{is_utf8}
-use Rattle.std.specs.Str.Lossy.{utf8_valid_len}
-use Rattle.grammar.specs.Ahead.{with_next}
-use Rattle.grammar.specs.Running.{Outcome, refused, run}
-use Rattle.text_lexer.specs.Computed.{tokens_of}
-use Rattle.text_lexer.specs.Place.{line_at, column_at}
-use Rattle.text_grammar.specs.Component.{table, text}
-use Rattle.text_grammar.specs.ComponentAhead.{lookahead}
+use Rattle.std.specs.Prelude.{ℕ, List, Option, Some, None}
+use Rattle.grammar.specs.Running.{Outcome, read, refused, undecided}
+use Rattle.component_items.specs.declared.component.Component.{Component}
+use Rattle.component_items.specs.declared.refusal.Place.{Place}
 use Rattle.component_items.specs.declared.refusal.Refusal.{Refusal}
 use Rattle.component_items.specs.declared.refusal.Refusal.TheVariants.{Bad}
-use Rattle.component_items.specs.declared.refusal.Why.TheVariants.{BadUtf8}
-use Rattle.component_meaning.specs.State.{State, start}
-use Rattle.component_meaning.specs.Meaning.{semantics}
+use Rattle.component_items.specs.declared.refusal.Why.{Why}
+use Rattle.part_meaning.specs.Computed.{outcome}
+use Rattle.component_meaning.specs.State.{State}
+use Rattle.component_meaning.specs.Component.{component_text}
 
--- enough steps for each text
-abbrev pub steps_for : List ℕ → ℕ
-steps_for bytes = 64 * (length bytes + 2)
+abbrev pub component_in : Outcome State Refusal → Option Component
+component_in (read a) = Some (record { texts = a.texts; items = a.items })
+component_in (refused why) = None
+component_in undecided = None
 
--- why bytes are refused that are no UTF-8 behind their first n
-abbrev pub bad_utf8_at : List ℕ → ℕ → Refusal
-bad_utf8_at bytes n = Bad BadUtf8 (record { line = line_at 1 bytes n; column = column_at bytes n })
+abbrev pub refusal_in : Outcome State Refusal → Option Refusal
+refusal_in (read a) = None
+refusal_in (refused why) = Some why
+refusal_in undecided = None
 
-unfoldable pub outcome : List ℕ → Outcome State Refusal
-outcome bytes =
-    if is_utf8 bytes then run table lookahead (semantics bytes) (steps_for bytes) text start (with_next (tokens_of bytes 1))
-    else refused (bad_utf8_at bytes (utf8_valid_len bytes))
+-- the component of a text, if it has one, and why it has none
+abbrev pub component_of : List ℕ → Option Component
+component_of bytes = component_in (outcome component_text bytes)
+
+abbrev pub refusal_of : List ℕ → Option Refusal
+refusal_of bytes = refusal_in (outcome component_text bytes)
+
+-- a refusal at a line and column
+abbrev pub bad : Why → ℕ → ℕ → Option Refusal
+bad why line column = Some (Bad why (record { line = line; column = column }))

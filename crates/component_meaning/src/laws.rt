@@ -1,10 +1,38 @@
 //! What follows from the definitions alone.
 
-ghost use Rattle.std.specs.Prelude.{◌≡◌, ℕ, List};
-ghost use Rattle.component_items.specs.declared.component.Component.{Component};
-ghost use Rattle.component_meaning.specs.Component.{IsComponent};
+ghost use Rattle.std.specs.Prelude.{◌≡◌, ℕ, List, Some, None, codes};
+ghost use Rattle.component_items.specs.declared.component.Component.{Component as ComponentValue};
+ghost use Rattle.component_items.specs.declared.refusal.Refusal.{Refusal};
+ghost use Rattle.part_meaning.specs.Part.{IsRefused};
+ghost use Rattle.component_meaning.specs.Component.{component_text, IsComponent};
+ghost use Rattle.component_meaning.specs.Computed.{component_of, refusal_of, bad};
+
+use component_items::{Item, Why};
 
 /// Bytes are the text of at most one component.
 pub fn one_component()
-    ensures { (bytes : List ℕ) (a b : Component) → IsComponent bytes a → IsComponent bytes b → a ≡ b }
+    ensures { (bytes : List ℕ) (a b : ComponentValue) → IsComponent bytes a → IsComponent bytes b → a ≡ b }
+{}
+
+/// The text of a component is not refused.
+pub fn never_both()
+    ensures { (bytes : List ℕ) (component : ComponentValue) (why : Refusal) → IsComponent bytes component → IsRefused component_text bytes why → ⊥ }
+{}
+
+/// A text is refused for one reason at one place.
+pub fn one_refusal()
+    ensures { (bytes : List ℕ) (a b : Refusal) → IsRefused component_text bytes a → IsRefused component_text bytes b → a ≡ b }
+{}
+
+/// What is computed is what the relations say.
+pub fn outcome_is_meaning()
+    ensures component { (bytes : List ℕ) (component : ComponentValue) → component_of bytes ≡ Some component → IsComponent bytes component }
+    ensures refused { (bytes : List ℕ) (why : Refusal) → refusal_of bytes ≡ Some why → IsRefused component_text bytes why }
+{}
+
+/// Worked rows: texts that are refused.
+pub fn refused_texts()
+    ensures empty { refusal_of (codes "") ≡ bad Why.Unexpected 1 1 }
+    ensures leading_zero { refusal_of (codes "component 1\nsignal a = 01") ≡ bad Why.BadToken 2 12 }
+    ensures left_open { refusal_of (codes "component 1\n<p>") ≡ bad Why.UnclosedTag 2 4 }
 {}

@@ -4,4 +4,4 @@
 
 mod laws;
 
-pub use laws::one_component;
+pub use laws::{never_both, one_component, one_refusal, outcome_is_meaning, refused_texts};
