@@ -167,7 +167,7 @@ fits_alone {K = K} t h (Rule r ∷ rest) inside =
       fits_alone t h rest (λ k. (parts k).1),
     )
 
--- a kind that no production takes is the last one
+-- a token of a kind that stops at the symbols before the end, and at each rule, is the last one
 pub is_last_from : {W R D K : Type 0} (t : Table W R D K) (blocked : W → Bool) (end : W) (k : K) (inner : List (Symbol W R D)) (rules : List R) → ListsAll rules
     → stops t blocked k inner ≡ true → list_all (rule_stops t blocked k) rules ≡ true → IsLast t blocked end k (inner ++ Terminal end ∷ [])
 is_last_from t blocked end k inner rules all_rules before inside = record {

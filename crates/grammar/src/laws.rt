@@ -72,9 +72,8 @@ pub fn one_of_both<W, R, D, K, T, S, E>()
         → ((last : S) × Means t m start first xs last) ⊎ ((why : E) × IsFirstBad t m start first xs why) }
 {}
 
-/// Every list of tokens whose last is taken by no terminal but the end, which may take it or not, has a meaning
-/// or a first bad token, where no rule leads back to itself before a token is taken. Terminals that refuse
-/// every token may be left out of that.
+/// The same where the last token may stand for a terminal that refuses every token, or for none at all, the end
+/// included: it is enough that no terminal of the productions takes it, and none that stands before the end.
 pub fn one_of_both_by_the_last<W, R, D, K, T, S, E>()
     ensures { (t : Table W R D K) (h : Lookahead W R K) (m : Semantics W D K T S E) → IsRight t h
         → (level : R → ℕ) → LeadsDown t h level
