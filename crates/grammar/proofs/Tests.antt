@@ -7,6 +7,7 @@ use Rattle.grammar.specs.declared.symbol.Symbol.TheVariants.{Terminal, Rule, Act
 use Rattle.grammar.specs.Table.{Table, production_at, Derives, done, terminal, rule, action}
 use Rattle.grammar.specs.Lookahead.{Lookahead, ListsAll, implies, may_begin, is_nullable, follows, production_is_right, productions_are_right, ranks_below, short_ends, rule_is_right, is_predictive}
 use Rattle.grammar.specs.Machine.{Fits, IsRight}
+use Rattle.grammar.specs.Ends.{stops, rule_stops, IsLast}
 use Rattle.grammar.proofs.Theory.{or_left, or_right, and_cases, and_both, begin_append}
 
 pub all_at : {A : Type 0} (p : A → Bool) (xs : List A) (i : ℕ) (x : A) → list_all p xs ≡ true → production_at xs i ≡ Some x → p x ≡ true
@@ -165,3 +166,12 @@ fits_alone {K = K} t h (Rule r ∷ rest) inside =
           (or_left (may_begin t h rest k) (is_nullable t h rest && false) b)),
       fits_alone t h rest (λ k. (parts k).1),
     )
+
+-- a token of a kind that stops at the symbols before the end, and at each rule, is the last one
+pub is_last_from : {W R D K : Type 0} (t : Table W R D K) (blocked : W → Bool) (end : W) (k : K) (inner : List (Symbol W R D)) (rules : List R) → ListsAll rules
+    → stops t blocked k inner ≡ true → list_all (rule_stops t blocked k) rules ≡ true → IsLast t blocked end k (inner ++ Terminal end ∷ [])
+is_last_from t blocked end k inner rules all_rules before inside = record {
+  closes = record { inner = inner; whole = refl };
+  before = before;
+  inside = λ r. passes (rule_stops t blocked k) rules all_rules inside r;
+}

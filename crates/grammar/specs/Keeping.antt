@@ -17,8 +17,3 @@ pub record KeepsAlong {W R D K T S E : Type 0} (t : Table W R D K) (m : Semantic
   pub rule : (r : R) (i : ℕ) (body rest : List (Symbol W R D)) (a : S) → production_at (t.productions r) i ≡ Some body
       → Q (Rule r ∷ rest) a → Q (body ++ rest) a
   pub action : (d : D) (rest : List (Symbol W R D)) (a : S) → Q (Action d ∷ rest) a → Q rest (m.perform d a)
-
--- What some of these things shows, where each shows something of one state. Every property P can be given so, by
--- the pairs of a state and a proof of P at it.
-abbrev pub IsShown : {G A : Type 0} → (G → A) → A → Type 0
-IsShown {G = G} of a = (g : G) × (of g ≡ a)

@@ -1,6 +1,7 @@
 //! What holds of every grammar whose lookahead is right.
 
-ghost use Rattle.std.specs.Prelude.{◌≡◌, ◌⊎◌, ◌++◌, ◌∷◌, [], ℕ, suc, true, List, map, length, slice_get, Some};
+ghost use Rattle.std.specs.Prelude.{◌≡◌, ◌⊎◌, ◌++◌, ◌∷◌, [], ℕ, suc, Bool, true, List, map, length, slice_get, Some};
+ghost use Rattle.std.specs.List.{list_all};
 ghost use Rattle.grammar.specs.declared.symbol.Symbol.{Symbol};
 ghost use Rattle.grammar.specs.declared.symbol.Symbol.TheVariants.{Terminal};
 ghost use Rattle.grammar.specs.Table.{Table};
@@ -8,11 +9,10 @@ ghost use Rattle.grammar.specs.Lookahead.{Lookahead, ListsAll, is_predictive, ha
 ghost use Rattle.grammar.specs.Machine.{Fits, IsRight};
 ghost use Rattle.grammar.specs.Decides.{TakesChosen, FollowsDerivations, NeverMisleads};
 ghost use Rattle.grammar.specs.Descent.{LeadsDown, leads_down};
-ghost use Rattle.grammar.specs.Ends.{IsEndOf, IsEnded, is_apart};
+ghost use Rattle.grammar.specs.Ends.{IsEndOf, IsEnded, is_apart, IsLast, stops, rule_stops, Blocks};
 ghost use Rattle.grammar.specs.Semantics.{Semantics, Reads};
 ghost use Rattle.grammar.specs.Meaning.{Means, IsFirstBad, ClosesWith};
 ghost use Rattle.grammar.specs.Running.{run, read, refused};
-ghost use Rattle.grammar.specs.Keeping.{Keeps, KeepsAlong, IsShown};
 ghost use Rattle.grammar.specs.Ahead.{WithNext, with_next};
 
 /// Tests that compute over a table, with lists of its terminals, rules and kinds, show all that the other laws
@@ -28,6 +28,9 @@ pub fn tests_suffice<W, R, D, K>()
     ensures end { (t : Table W R D K) (end : W) (inner : List (Symbol W R D))
         → (rules : List R) (kinds : List K) → ListsAll rules → ListsAll kinds
         → is_apart t end inner rules kinds ≡ true → IsEndOf t end (inner ++ Terminal end ∷ []) }
+    ensures last { (t : Table W R D K) (blocked : W → Bool) (end : W) (k : K) (inner : List (Symbol W R D))
+        → (rules : List R) → ListsAll rules → stops t blocked k inner ≡ true → list_all (rule_stops t blocked k) rules ≡ true
+        → IsLast t blocked end k (inner ++ Terminal end ∷ []) }
 {}
 
 /// One token of lookahead decides: what a stack derives takes the productions that the lookahead chooses, and
@@ -69,6 +72,17 @@ pub fn one_of_both<W, R, D, K, T, S, E>()
         → ((last : S) × Means t m start first xs last) ⊎ ((why : E) × IsFirstBad t m start first xs why) }
 {}
 
+/// The same where the last token may stand for a terminal that refuses every token, or for none at all, the end
+/// included: it is enough that no terminal of the productions takes it, and none that stands before the end.
+pub fn one_of_both_by_the_last<W, R, D, K, T, S, E>()
+    ensures { (t : Table W R D K) (h : Lookahead W R K) (m : Semantics W D K T S E) → IsRight t h
+        → (level : R → ℕ) → LeadsDown t h level
+        → (start : List (Symbol W R D)) (end : W) (first : S) → Fits t h start
+        → (blocked : W → Bool) → Blocks m blocked
+        → (before : List T) (last : T) → IsLast t blocked end (m.kind last) start
+        → ((final : S) × Means t m start first (before ++ last ∷ []) final) ⊎ ((why : E) × IsFirstBad t m start first (before ++ last ∷ []) why) }
+{}
+
 /// What the form that computes finds is so: the state that the tokens lead to, or why the first bad one is
 /// refused.
 pub fn running_tells<W, R, D, K, T, S, E>()
@@ -78,18 +92,6 @@ pub fn running_tells<W, R, D, K, T, S, E>()
     ensures refused { (t : Table W R D K) (h : Lookahead W R K) (m : Semantics W D K T S E) → IsRight t h
         → (start : List (Symbol W R D)) (first : S) → Fits t h start
         → (n : ℕ) (xs : List T) (why : E) → run t h m n start first xs ≡ refused why → IsFirstBad t m start first xs why }
-{}
-
-/// A property of states that each step keeps holds at the end if it holds at the start, and so does one that
-/// speaks of the symbols still to come too. It is given by what shows it, as every property can be.
-pub fn what_is_kept_holds<W, R, D, K, T, S, E, G>()
-    ensures reads { (t : Table W R D K) (m : Semantics W D K T S E) (of : G → S) → Keeps t m (IsShown of)
-        → (s out : List (Symbol W R D)) (a b : S) (xs : List T) → Reads t m s a xs out b → IsShown of a → IsShown of b }
-    ensures means { (t : Table W R D K) (m : Semantics W D K T S E) (of : G → S) → Keeps t m (IsShown of)
-        → (start : List (Symbol W R D)) (first last : S) (xs : List T) → Means t m start first xs last → IsShown of first → IsShown of last }
-    ensures along { (t : Table W R D K) (m : Semantics W D K T S E) (of : G → List (Symbol W R D) × S)
-        → KeepsAlong t m (λ stack now. IsShown of (stack, now))
-        → (s out : List (Symbol W R D)) (a b : S) (xs : List T) → Reads t m s a xs out b → IsShown of (s, a) → IsShown of (out, b) }
 {}
 
 /// Tokens with the next one: they are the tokens, each with the one behind it, the last with itself.

@@ -6,7 +6,7 @@ use Rattle.grammar.specs.Lookahead.{ListsAll, implies, follows}
 use Rattle.grammar.specs.Descent.{rule_goes_down}
 use Rattle.grammar.specs.Ends.{lacks, rule_lacks, is_apart}
 use Rattle.grammar.proofs.Theory.{and_cases}
-use Rattle.grammar.proofs.Tests.{right_from, listed, passes, implied, fits_alone}
+use Rattle.grammar.proofs.Tests.{right_from, listed, passes, implied, fits_alone, is_last_from}
 use Rattle.grammar.proofs.laws.tests_suffice.Goals as goal
 
 is_apart_at : {W R D K : Type 0} (t : Table W R D K) (end : W) (inner : List (Symbol W R D)) (rules : List R) (kinds : List K) → ListsAll kinds → is_apart t end inner rules kinds ≡ true
@@ -32,3 +32,6 @@ returns-clause-end g c t end inner rules kinds all_rules all_kinds e = record {
   before = λ k has. (is_apart_at t end inner rules kinds all_kinds e k has).0;
   inside = λ k has r. passes (rule_lacks t k) rules all_rules (is_apart_at t end inner rules kinds all_kinds e k has).1 r;
 }
+
+pub returns-clause-last : goal.returns-clause-last
+returns-clause-last g c t blocked end k inner rules all_rules before inside = is_last_from t blocked end k inner rules all_rules before inside
