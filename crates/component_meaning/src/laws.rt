@@ -1,13 +1,11 @@
 //! What follows from the definitions alone.
 
-ghost use Rattle.std.specs.Prelude.{◌≡◌, ℕ, List, Some, None, codes};
+ghost use Rattle.std.specs.Prelude.{◌≡◌, ℕ, List, Some};
 ghost use Rattle.component_items.specs.declared.component.Component.{Component as ComponentValue};
 ghost use Rattle.component_items.specs.declared.refusal.Refusal.{Refusal};
 ghost use Rattle.part_meaning.specs.Part.{IsRefused};
 ghost use Rattle.component_meaning.specs.Component.{component_text, IsComponent};
-ghost use Rattle.component_meaning.specs.Computed.{component_of, refusal_of, bad};
-
-use component_items::{Item, Why};
+ghost use Rattle.component_meaning.specs.Computed.{component_of, refusal_of};
 
 /// Bytes are the text of at most one component.
 pub fn one_component()
@@ -28,11 +26,4 @@ pub fn one_refusal()
 pub fn outcome_is_meaning()
     ensures component { (bytes : List ℕ) (component : ComponentValue) → component_of bytes ≡ Some component → IsComponent bytes component }
     ensures refused { (bytes : List ℕ) (why : Refusal) → refusal_of bytes ≡ Some why → IsRefused component_text bytes why }
-{}
-
-/// Worked rows: texts that are refused.
-pub fn refused_texts()
-    ensures empty { refusal_of (codes "") ≡ bad Why.Unexpected 1 1 }
-    ensures leading_zero { refusal_of (codes "component 1\nsignal a = 01") ≡ bad Why.BadToken 2 12 }
-    ensures left_open { refusal_of (codes "component 1\n<p>") ≡ bad Why.UnclosedTag 2 4 }
 {}

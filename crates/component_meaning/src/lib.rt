@@ -3,5 +3,10 @@
 #![tactic(auto)]
 
 mod laws;
+mod refused;
 
-pub use laws::{never_both, one_component, one_refusal, outcome_is_meaning, refused_texts};
+pub use laws::{never_both, one_component, one_refusal, outcome_is_meaning};
+pub use refused::{
+    forbidden_tags, great_numbers, keys_taken, limits, names_not_seen, names_taken, unclosed_elements, unexpected_tokens,
+    wrong_places,
+};
