@@ -1,14 +1,12 @@
 -- All tokens that are computed are all tokens of the text.
-use Rattle.std.proofs.Common.{◌≡◌, ℕ, zero, suc, ◌+◌, ◌-◌, ◌<◌, ◌≤◌, Bool, true, false, cond, List, [], ◌∷◌, ◌++◌, length, drop, Ok, Err, inl, inr, refl, sym, ◌∙◌, ap, subst, arith}
+use Rattle.std.proofs.Common.{◌≡◌, ℕ, zero, suc, ◌+◌, ◌-◌, ◌<◌, ◌≤◌, true, false, cond, List, [], ◌∷◌, ◌++◌, length, drop, Ok, Err, inl, inr, refl, sym, ◌∙◌, ap, subst, arith}
 use Rattle.std.proofs.lemmas.Bool.{cases_Bool, false≢true}
-use Rattle.text_lexer.specs.declared.token.BadToken.{BadToken}
-use Rattle.text_lexer.specs.declared.token.Token.{Token}
 use Rattle.text_lexer.specs.declared.token.TokenKind.{TokenKind}
 use Rattle.text_lexer.specs.declared.token.TokenKind.TheVariants.{End}
 use Rattle.text_lexer.specs.Computed.{next_of, tokens_from, tokens_of}
 use Rattle.text_lexer.specs.Cursor.{Cursor, start_of}
-use Rattle.text_lexer.specs.Lexing.{IsNext, is_end, after}
-use Rattle.text_lexer.specs.Tokens.{Lexed, IsGiven, past, is_last, Leads, here, on, AreTokens, IsTokenList}
+use Rattle.text_lexer.specs.Lexing.{is_end, after}
+use Rattle.text_lexer.specs.Tokens.{Lexed, IsGiven, past, is_last, Leads, here, on, IsTokenList}
 use Rattle.text_lexer.proofs.TokenLists.{one_given, head_given, none_led}
 use Rattle.text_lexer.proofs.Tokens.{longest_some}
 use Rattle.text_lexer.proofs.Total.{next_given}

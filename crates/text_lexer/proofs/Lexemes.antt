@@ -446,11 +446,11 @@ no_escape rest i t opens h b p = no_text rest i t opens (λ q. rw (drop_more res
 pub no_escape_at_end : (rest : List ℕ) (i : ℕ) → IsTextFrom rest i → get_or rest 0 0 ≡ 34 → i < length rest → i + 1 ≡ length rest → get_or rest i 0 ≡ 92 → HasNoToken rest
 no_escape_at_end rest i t opens h last b = no_text rest i t opens (λ q. rw (drop_more rest i 0 h, drop_all (i + 1) rest (omega arith)) (text_bad_end (get_or rest i 0) q b))
 
-pub take_one : (rest : List ℕ) → 0 < length rest → take 1 rest ≡ get_or rest 0 0 ∷ []
+take_one : (rest : List ℕ) → 0 < length rest → take 1 rest ≡ get_or rest 0 0 ∷ []
 take_one [] h = absurd (omega arith)
 take_one (b ∷ bs) h = refl
 
-pub take_two : (rest : List ℕ) → 1 < length rest → take 2 rest ≡ get_or rest 0 0 ∷ get_or rest 1 0 ∷ []
+take_two : (rest : List ℕ) → 1 < length rest → take 2 rest ≡ get_or rest 0 0 ∷ get_or rest 1 0 ∷ []
 take_two [] h = absurd (omega arith)
 take_two (b ∷ []) h = absurd (omega arith)
 take_two (b ∷ c ∷ bs) h = refl

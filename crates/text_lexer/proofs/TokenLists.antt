@@ -1,9 +1,8 @@
 -- What the lexer gives for a text is one list.
-use Rattle.std.proofs.Common.{◌≡◌, ℕ, Bool, true, false, List, [], ◌∷◌, ◌++◌, Result, Ok, Err, refl, sym, ◌∙◌, ap, subst}
+use Rattle.std.proofs.Common.{◌≡◌, ℕ, Bool, true, false, List, [], ◌∷◌, ◌++◌, Ok, Err, refl, sym, ◌∙◌, ap, subst}
 use Rattle.text_lexer.specs.declared.token.BadToken.{BadToken}
-use Rattle.text_lexer.specs.declared.token.Token.{Token}
 use Rattle.text_lexer.specs.Cursor.{Cursor}
-use Rattle.text_lexer.specs.Lexing.{IsNext, IsBad, HasOneBad, is_end, after}
+use Rattle.text_lexer.specs.Lexing.{HasOneBad, is_end, after}
 use Rattle.text_lexer.specs.Tokens.{Lexed, IsGiven, past, is_last, Leads, here, on}
 use Rattle.text_lexer.proofs.Unique.{one_skip, one_next_token, never_both}
 

@@ -1,21 +1,20 @@
 -- What is computed comes next, and so at each cursor something comes next.
-use Rattle.std.proofs.Common.{◌≡◌, ◌↔◌, ℕ, zero, suc, ◌+◌, ◌-◌, ◌<◌, ◌≤◌, Bool, true, false, not, cond, ◌&&◌, ◌||◌, eqb, eqb-true, leb, ltb, ltb-true, List, [], ◌∷◌, length, take, drop, get_or, Option, Some, None, Ok, Err, inl, inr, ◌⊎◌, refl, sym, ◌∙◌, ap, subst, arith}
-use Rattle.std.proofs.lemmas.Bool.{cases_Bool, and_parts, and_from, or_cases, or_left, or_right, not-true, not_from_false, eq-eqb, eqb-false, ne_eqb, lt-ltb, leb-true, leb-false, false≢true}
+use Rattle.std.proofs.Common.{◌≡◌, ◌↔◌, ℕ, ◌+◌, ◌<◌, ◌≤◌, Bool, true, false, not, cond, ◌&&◌, ◌||◌, eqb, eqb-true, leb, ltb, ltb-true, List, [], ◌∷◌, length, take, drop, get_or, Option, Some, None, Ok, Err, inl, inr, ◌⊎◌, refl, sym, ◌∙◌, ap, subst, arith}
+use Rattle.std.proofs.lemmas.Bool.{and_parts, and_from, or_cases, not-true, not_from_false, eq-eqb, eqb-false, ne_eqb, lt-ltb, leb-true, leb-false, false≢true}
 use Rattle.std.proofs.lemmas.List.{length-drop, drop_more}
 use Rattle.std.specs.List.{prefix_len}
 use Rattle.text_lexer.specs.declared.token.BadToken.{BadToken}
 use Rattle.text_lexer.specs.declared.token.Mark.{Mark}
 use Rattle.text_lexer.specs.declared.token.Reserved.{Reserved}
 use Rattle.text_lexer.specs.declared.token.Token.{Token}
-use Rattle.text_lexer.specs.declared.token.TokenKind.{TokenKind}
-use Rattle.text_lexer.specs.declared.token.TokenKind.TheVariants.{Name, Reserved as ReservedWord, Number, Text, Mark as MarkSign, End}
-use Rattle.text_lexer.specs.Bytes.{is_line_feed, is_hash, is_blank, is_letter, is_digit, is_name_byte}
+use Rattle.text_lexer.specs.declared.token.TokenKind.TheVariants.{Number, Mark as MarkSign, End}
+use Rattle.text_lexer.specs.Bytes.{is_blank, is_letter, is_digit, is_name_byte}
 use Rattle.text_lexer.specs.Computed.{spelled, all_reserved, all_marks, run_length, skip_from, text_length, Found, word_kind, word_of, number_of, as_text, text_of, as_mark, either_mark, mark_of, front_of, token_at, given_at, rest_given, next_of}
 use Rattle.text_lexer.specs.Cursor.{Cursor}
 use Rattle.text_lexer.specs.Lexing.{Skips, IsNext, IsBad, HasSomeNext}
 use Rattle.text_lexer.specs.Token.{reserved_bytes, mark_bytes, is_plain, is_escape, IsLongest, IsTokenOf, HasNoToken}
 use Rattle.text_lexer.specs.Tokens.{Lexed, IsGiven}
-use Rattle.text_lexer.proofs.Lexemes.{IsTextFrom, BeginsNoOther, HasNoPair, text_start, text_past_plain, text_past_escape, text_token, no_closing, no_text_byte, no_escape, no_escape_at_end, name_token, reserved_token, no_long_word, number_token, no_leading_zero, pair_token, single_token, no_mark}
+use Rattle.text_lexer.proofs.Lexemes.{IsTextFrom, BeginsNoOther, text_start, text_past_plain, text_past_escape, text_token, no_closing, no_text_byte, no_escape, no_escape_at_end, name_token, reserved_token, no_long_word, number_token, no_leading_zero, pair_token, single_token, no_mark}
 use Rattle.text_lexer.proofs.Skipping.{SkipsSoFar, skips_none, skips_more, skips_done}
 use Rattle.text_lexer.proofs.Spelled.{IsSpelling, reserved_spells, mark_spells}
 use Rattle.text_lexer.proofs.Tokens.{token_stands}
@@ -58,7 +57,7 @@ skip_all true (b ∷ bs) text from i s e =
     let here = rest.here in
     skip_all (not (eqb b 10)) bs text from (i + 1) (
     skips_more text from i true (not (eqb b 10)) s rest.within (λ outside _ _. false≢true (sym outside)) (λ h. (inl refl, λ ten. eqb-false b 10 (not-true (eqb b 10) h) (sym here ∙ ten))) (λ h. not_from_false (eqb b 10) (ne_eqb b 10 (λ ten. h.1 (here ∙ ten))))
-  ) rest.next
+    ) rest.next
 skip_all false (b ∷ bs) text from i s e =
     let rest = is_rest text i b bs e in
     let here = rest.here in
@@ -70,7 +69,7 @@ skip_all false (b ∷ bs) text from i s e =
       | inl inside ↦ absurd (false≢true inside)
       | inr hash ↦ eq-eqb b 35 (sym here ∙ hash)
     ])
-  ) rest.next) (λ stops.
+    ) rest.next) (λ stops.
     let neither = both_false (is_blank b) (eqb b 35) stops in
     skips_done text from i false s (λ _. (refl, ap is_blank here ∙ neither.0, λ hash. eqb-false b 35 neither.1 (sym here ∙ hash))))
 

@@ -130,9 +130,9 @@ abbrev pub tokens_of : List ℕ → ℕ → List Lexed
 tokens_of text first_line = tokens_from (suc (length text)) (start_of text first_line)
 
 -- what stands at a place, or none where it is bad, with the place
-abbrev pub shown : Lexed → Option TokenKind × ℕ × ℕ
-shown (Ok token) = (Some token.kind, token.line, token.column)
-shown (Err bad) = (None, bad.line, bad.column)
+abbrev pub kind_and_place : Lexed → Option TokenKind × ℕ × ℕ
+kind_and_place (Ok token) = (Some token.kind, token.line, token.column)
+kind_and_place (Err bad) = (None, bad.line, bad.column)
 
 -- whether it stands right behind the token before it
 abbrev pub touches_before : Lexed → Bool
