@@ -1,5 +1,5 @@
 -- The laws of parts of the input, of component texts.
-use Rattle.std.proofs.Common.{◌≡◌, ℕ, List, [], ◌∷◌, Option, Some, refl, sym, ◌∙◌, ap}
+use Rattle.std.proofs.Common.{◌≡◌, ℕ, List, [], ◌∷◌, Option, Some, ◌<◌, ◌≤◌, refl, sym, ◌∙◌, ap, subst, arith}
 use Rattle.grammar.specs.declared.symbol.Symbol.TheVariants as s
 use Rattle.grammar.specs.Running.{Outcome, read, refused, undecided}
 use Rattle.text_grammar.specs.declared.component.Rule.TheVariants as rule
@@ -8,13 +8,14 @@ use Rattle.text_grammar.proofs.ComponentRight.{is_right, fits}
 use Rattle.component_items.specs.declared.component.Component.{Component}
 use Rattle.component_items.specs.declared.component.Item.{Item}
 use Rattle.component_items.specs.declared.refusal.Refusal.{Refusal}
+use Rattle.component_items.specs.Counts.{nodes_of}
 use Rattle.part_meaning.specs.Part.{IsDecided, IsReadTo, IsRefused}
 use Rattle.part_meaning.specs.Computed.{outcome}
 use Rattle.part_meaning.proofs.Once as once
 use Rattle.part_meaning.proofs.Computed as computed
 use Rattle.component_meaning.specs.State.{State}
-use Rattle.component_meaning.specs.Component.{component_text, IsComponent}
-use Rattle.component_meaning.specs.Computed.{component_in, refusal_in, component_of, refusal_of}
+use Rattle.component_meaning.specs.Component.{component_text, IsComponent, IsNoComponent, refused_text, too_large, too_many_nodes}
+use Rattle.component_meaning.specs.Computed.{component_in, read_in, refusal_in, read_of, refusal_of}
 
 pub decided : IsDecided component_text
 decided = record { right = is_right; fits = fits; end = terminal.End; closes = record { inner = s.Rule rule.Component ∷ []; whole = refl } }
@@ -31,32 +32,47 @@ one_component bytes a b p q =
     let ends = once.one_meaning component_text decided bytes p.last q.last p.read q.read in
     same_component a b (p.texts ∙ ap (λ (e : State). e.texts) ends ∙ sym q.texts) (p.items ∙ ap (λ (e : State). e.items) ends ∙ sym q.items)
 
-pub never_both : (bytes : List ℕ) (component : Component) (why : Refusal) → IsComponent bytes component → IsRefused component_text bytes why → ⊥
-never_both bytes component why p bad = once.never_both component_text decided bytes p.last why p.read bad
+pub never_both : (bytes : List ℕ) (component : Component) (why : Refusal) → IsComponent bytes component → IsNoComponent bytes why → ⊥
+never_both bytes component why p (refused_text {why = e} bad) = once.never_both component_text decided bytes p.last e p.read bad
+never_both bytes component why p (too_large last reads many) =
+    let ends = once.one_meaning component_text decided bytes p.last last p.read reads in
+    let few = subst (λ (items : List Item). nodes_of items ≤ 4096) (p.items ∙ ap (λ (e : State). e.items) ends) p.few_nodes in
+    absurd (omega arith)
 
-pub one_refusal : (bytes : List ℕ) (a b : Refusal) → IsRefused component_text bytes a → IsRefused component_text bytes b → a ≡ b
-one_refusal bytes a b p q = once.one_refusal component_text decided bytes a b p q
+pub one_refusal : (bytes : List ℕ) (a b : Refusal) → IsNoComponent bytes a → IsNoComponent bytes b → a ≡ b
+one_refusal bytes a b (refused_text {why = e} p) (refused_text {why = f} q) = once.one_refusal component_text decided bytes e f p q
+one_refusal bytes a b (refused_text {why = e} p) (too_large last reads many) = absurd (once.never_both component_text decided bytes last e reads p)
+one_refusal bytes a b (too_large last reads many) (refused_text {why = e} p) = absurd (once.never_both component_text decided bytes last e reads p)
+one_refusal bytes a b (too_large last reads many) (too_large last' reads' many') = refl
 
-read_component : (bytes : List ℕ) (component : Component) (o : Outcome State Refusal) → outcome component_text bytes ≡ o → component_in o ≡ Some component → IsComponent bytes component
-read_component bytes component (read a) is same = record {
-  last = a;
-  read = computed.computed_read component_text decided bytes a is;
-  texts = let found : Some (record { texts = a.texts; items = a.items }) ≡ Some component = same in cc;
-  items = let found : Some (record { texts = a.texts; items = a.items }) ≡ Some component = same in cc;
-}
+some_is : {A : Type 0} (a b : A) → Some a ≡ Some b → a ≡ b
+some_is a b p = cc
+
+read_component : (bytes : List ℕ) (component : Component) (o : Outcome State Refusal) → outcome component_text bytes ≡ o → read_in o ≡ Some component
+    → (last : State) × IsReadTo component_text bytes last × (component_in last ≡ component)
+read_component bytes component (read a) is same = (a, computed.computed_read component_text decided bytes a is, some_is (component_in a) component same)
 read_component bytes component (refused why) is same = absurd cc
 read_component bytes component undecided is same = absurd cc
 
-pub computed_component : (bytes : List ℕ) (component : Component) → component_of bytes ≡ Some component → IsComponent bytes component
-computed_component bytes component is = read_component bytes component (outcome component_text bytes) refl is
+pub computed_component : (bytes : List ℕ) (component : Component) → read_of bytes ≡ Some component → nodes_of component.items ≤ 4096 → IsComponent bytes component
+computed_component bytes component is few =
+    let found = read_component bytes component (outcome component_text bytes) refl is in record {
+      last = found.0;
+      read = found.1;
+      texts = ap (λ (c : Component). c.texts) (sym found.2);
+      items = ap (λ (c : Component). c.items) (sym found.2);
+      few_nodes = few;
+    }
 
 read_refusal : (bytes : List ℕ) (why : Refusal) (o : Outcome State Refusal) → outcome component_text bytes ≡ o → refusal_in o ≡ Some why → IsRefused component_text bytes why
 read_refusal bytes why (read a) is same = absurd cc
 read_refusal bytes why (refused e) is same = computed.computed_refusal component_text decided bytes why (is ∙ ap refused (some_is e why same))
-  where
-    some_is : (a b : Refusal) → Some a ≡ Some b → a ≡ b
-    some_is a b p = cc
 read_refusal bytes why undecided is same = absurd cc
 
-pub computed_refusal : (bytes : List ℕ) (why : Refusal) → refusal_of bytes ≡ Some why → IsRefused component_text bytes why
-computed_refusal bytes why is = read_refusal bytes why (outcome component_text bytes) refl is
+pub computed_refusal : (bytes : List ℕ) (why : Refusal) → refusal_of bytes ≡ Some why → IsNoComponent bytes why
+computed_refusal bytes why is = refused_text (read_refusal bytes why (outcome component_text bytes) refl is)
+
+pub computed_nodes : (bytes : List ℕ) (component : Component) → read_of bytes ≡ Some component → 4096 < nodes_of component.items → IsNoComponent bytes (too_many_nodes bytes)
+computed_nodes bytes component is many =
+    let found = read_component bytes component (outcome component_text bytes) refl is in
+    too_large found.0 found.1 (subst (λ (c : Component). 4096 < nodes_of c.items) (sym found.2) many)

@@ -16,7 +16,6 @@ use Rattle.component_items.specs.declared.refusal.Why.{Why}
 use Rattle.component_items.specs.declared.refusal.Why.TheVariants as why
 use Rattle.component_items.specs.declared.refusal.Count.TheVariants as count
 use Rattle.component_items.specs.declared.refusal.Place.{Place}
-use Rattle.component_items.specs.Counts.{nodes_of}
 use Rattle.component_items.specs.Kept.{may_declare, may_have_resource, may_have_cleanup, may_have_memo, may_have_area, may_have_each}
 use Rattle.component_meaning.specs.State.{State, standing_in, rows_in}
 use Rattle.component_meaning.specs.Names.{bytes_of, place_of, value_in, content_in, number_in, negated_in, greatest, greatest_negated, declared_as, is_seen, has_value, is_resource, is_store, is_other, is_key, field_at, part_in, goes_on, is_part, ends_name, is_open_name, is_attribute_name, is_close_name, spelled, is_open_tag, has_attribute, is_raw_tag, is_full}
@@ -31,13 +30,12 @@ pub data Check : Type 0 where
   too_many_rows : Check
   too_many_owners : Check
   too_many_texts : Check
-  too_many_nodes : Check
   -- a number within the name of a tag or attribute: it stands behind the name's first token
   part_range : Check
 
 -- Where a token fails several, the first of these is the reason.
 abbrev pub order : List Check
-order = unclosed ∷ too_deep ∷ number_range ∷ unknown_name ∷ wrong_place ∷ name_taken ∷ too_many_rows ∷ too_many_owners ∷ too_many_texts ∷ too_many_nodes ∷ part_range ∷ []
+order = unclosed ∷ too_deep ∷ number_range ∷ unknown_name ∷ wrong_place ∷ name_taken ∷ too_many_rows ∷ too_many_owners ∷ too_many_texts ∷ part_range ∷ []
 
 abbrev pub why_of : Check → Why
 why_of unclosed = why.UnclosedTag
@@ -49,7 +47,6 @@ why_of name_taken = why.NameTaken
 why_of too_many_rows = why.TooLarge count.StoreRows
 why_of too_many_owners = why.TooLarge count.Owners
 why_of too_many_texts = why.TooLarge count.Texts
-why_of too_many_nodes = why.TooLarge count.Nodes
 why_of part_range = why.NumberRange
 
 -- ---- UnclosedTag
@@ -194,10 +191,6 @@ abbrev pub has_no_room : Option (List ℕ) → State → Bool
 has_no_room None a = false
 has_no_room (Some bytes) a = is_full bytes a.texts
 
-abbrev pub fails_nodes : Terminal → State → Bool
-fails_nodes terminal.End a = nat_lt 4096 (nodes_of a.items)
-fails_nodes _ a = false
-
 -- ---- all of them
 
 abbrev pub fails : Check → List ℕ → Terminal → State → Token → Lexed → Bool
@@ -210,7 +203,6 @@ fails name_taken text t a x next = fails_taken text t a x next
 fails too_many_rows text t a x next = fails_rows text t x
 fails too_many_owners text t a x next = fails_owners t a
 fails too_many_texts text t a x next = has_no_room (text_of text t a x next) a
-fails too_many_nodes text t a x next = fails_nodes t a
 fails part_range text t a x next = fails_part_range text t a x next
 
 -- the first check that the token fails

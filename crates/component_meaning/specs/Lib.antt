@@ -6,3 +6,4 @@ pub mod Actions
 pub mod Meaning
 pub mod Component
 pub mod Computed
+pub mod Worked

@@ -1,0 +1,61 @@
+use Rattle.std.proofs.Common.{◌≡◌, ◌≤◌, ℕ, List, [], ◌∷◌, true, false, codes, pos, negsuc, Some, refl, arith}
+use Rattle.values.specs.declared.code.Code.TheVariants.{Empty, Number, Word}
+use Rattle.values.specs.declared.code.Op.TheVariants as op
+use Rattle.values.specs.declared.expr.Expr.TheVariants.{Lit, Read, Binary, If}
+use Rattle.component_items.specs.declared.component.Attr.TheVariants as attr
+use Rattle.component_items.specs.declared.component.Component.{Component}
+use Rattle.component_items.specs.declared.component.Item.{Item}
+use Rattle.component_items.specs.declared.component.Item.TheVariants as item
+use Rattle.component_items.specs.Counts.{item_maximum, item_nodes, nodes_of}
+use Rattle.component_items.proofs.FoldLemmas.{fold-Signal, fold-Store}
+use Rattle.component_meaning.specs.Computed.{read_of}
+use Rattle.component_meaning.proofs.Decided.{computed_component}
+use Rattle.component_meaning.proofs.accepted.limits_reached.Goals as goal
+
+abbrev least_number_items : List Item
+least_number_items = item.Signal 0 1 (Number (negsuc 2147483647)) ∷ []
+
+abbrev least_number_component : Component
+least_number_component = record { texts = [] ∷ codes "a" ∷ []; items = least_number_items }
+
+least_number_read : read_of (codes "component 1\nsignal a = -2147483648") ≡ Some least_number_component
+least_number_read = refl
+
+least_number_nodes : nodes_of least_number_items ≤ 4096
+unfolding item_maximum item_nodes
+least_number_nodes = simp (fold-Signal)
+
+pub returns-clause-least_number : goal.returns-clause-least_number
+returns-clause-least_number c = computed_component (codes "component 1\nsignal a = -2147483648") least_number_component least_number_read least_number_nodes
+
+abbrev greatest_number_items : List Item
+greatest_number_items = item.Signal 0 1 (Number (pos 2147483647)) ∷ []
+
+abbrev greatest_number_component : Component
+greatest_number_component = record { texts = [] ∷ codes "a" ∷ []; items = greatest_number_items }
+
+greatest_number_read : read_of (codes "component 1\nsignal a = 2147483647") ≡ Some greatest_number_component
+greatest_number_read = refl
+
+greatest_number_nodes : nodes_of greatest_number_items ≤ 4096
+unfolding item_maximum item_nodes
+greatest_number_nodes = simp (fold-Signal)
+
+pub returns-clause-greatest_number : goal.returns-clause-greatest_number
+returns-clause-greatest_number c = computed_component (codes "component 1\nsignal a = 2147483647") greatest_number_component greatest_number_read greatest_number_nodes
+
+abbrev nodes_items : List Item
+nodes_items = item.Store 0 1 4096 (2 ∷ []) (Number (pos 0) ∷ []) ∷ []
+
+abbrev nodes_component : Component
+nodes_component = record { texts = [] ∷ codes "s" ∷ codes "t" ∷ []; items = nodes_items }
+
+nodes_read : read_of (codes "component 1\nstore s max 4096 { t = 0 }") ≡ Some nodes_component
+nodes_read = refl
+
+nodes_nodes : nodes_of nodes_items ≤ 4096
+unfolding item_maximum item_nodes
+nodes_nodes = simp (fold-Store)
+
+pub returns-clause-nodes : goal.returns-clause-nodes
+returns-clause-nodes c = computed_component (codes "component 1\nstore s max 4096 { t = 0 }") nodes_component nodes_read nodes_nodes
