@@ -6,9 +6,9 @@ use Rattle.grammar.specs.Meaning.{ClosesWith, IsFirstBad}
 use Rattle.grammar.proofs.Once as once
 use Rattle.text_lexer.specs.Tokens.{Lexed}
 use Rattle.text_lexer.proofs.TokenLists.{IsFront, front, is_front, ArePlaced, same, before, behind, are_placed}
-use Rattle.component_reader.specs.declared.component.Component.{Component}
-use Rattle.component_reader.specs.declared.component.Item.{Item}
-use Rattle.component_reader.specs.declared.refusal.Refusal.{Refusal}
+use Rattle.component_items.specs.declared.component.Component.{Component}
+use Rattle.component_items.specs.declared.component.Item.{Item}
+use Rattle.component_items.specs.declared.refusal.Refusal.{Refusal}
 use Rattle.component_reader.specs.declared.state.State.{State}
 use Rattle.component_reader.specs.declared.table.Rule.TheVariants as rule
 use Rattle.component_reader.specs.declared.table.Terminal.TheVariants as terminal

@@ -24,9 +24,9 @@ use Rattle.text_lexer.specs.Cursor.{Cursor, start_of}
 use Rattle.text_lexer.specs.Lexing.{is_end, after}
 use Rattle.text_lexer.specs.Token.{IsTokenOf}
 use Rattle.text_lexer.specs.Tokens.{Lexed, IsGiven, past, is_last, Leads, here}
-use Rattle.component_reader.specs.declared.component.Component.{Component}
-use Rattle.component_reader.specs.declared.refusal.Refusal.{Refusal}
-use Rattle.component_reader.specs.declared.refusal.Refusal.TheVariants as f
+use Rattle.component_items.specs.declared.component.Component.{Component}
+use Rattle.component_items.specs.declared.refusal.Refusal.{Refusal}
+use Rattle.component_items.specs.declared.refusal.Refusal.TheVariants as f
 use Rattle.component_reader.specs.declared.state.State.{State}
 use Rattle.component_reader.specs.declared.table.Action.{Action}
 use Rattle.component_reader.specs.declared.table.Action.TheVariants as action

@@ -14,13 +14,13 @@ use Rattle.values.specs.Texts.{index_of, with_text}
 use Rattle.text_lexer.specs.declared.token.BadToken.{BadToken}
 use Rattle.text_lexer.specs.declared.token.Token.{Token}
 use Rattle.text_lexer.specs.Token.{decimal_value}
-use Rattle.component_reader.specs.declared.component.Item.{Item}
-use Rattle.component_reader.specs.declared.component.Item.TheVariants as item
-use Rattle.component_reader.specs.declared.refusal.Why.{Why}
-use Rattle.component_reader.specs.declared.refusal.Why.TheVariants as why
-use Rattle.component_reader.specs.declared.refusal.Count.TheVariants as count
-use Rattle.component_reader.specs.declared.refusal.Refusal.{Refusal}
-use Rattle.component_reader.specs.declared.refusal.Refusal.TheVariants.{Bad}
+use Rattle.component_items.specs.declared.component.Item.{Item}
+use Rattle.component_items.specs.declared.component.Item.TheVariants as item
+use Rattle.component_items.specs.declared.refusal.Why.{Why}
+use Rattle.component_items.specs.declared.refusal.Why.TheVariants as why
+use Rattle.component_items.specs.declared.refusal.Count.TheVariants as count
+use Rattle.component_items.specs.declared.refusal.Refusal.{Refusal}
+use Rattle.component_items.specs.declared.refusal.Refusal.TheVariants.{Bad}
 use Rattle.component_reader.specs.declared.table.Kind.{Kind}
 use Rattle.component_reader.specs.declared.table.Terminal.{Terminal}
 use Rattle.component_reader.specs.declared.table.Terminal.TheVariants as terminal
