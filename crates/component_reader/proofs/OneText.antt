@@ -1,5 +1,5 @@
 -- What follows from the definitions of texts.
-use Rattle.std.proofs.Common.{◌≡◌, ℕ, ◌+◌, List, [], ◌∷◌, ◌++◌, length, length-append, inl, refl, sym, ◌∙◌, ap, subst, arith, append_assoc}
+use Rattle.std.proofs.Common.{◌≡◌, ℕ, List, [], ◌∷◌, ◌++◌, length, length-append, inl, refl, sym, ◌∙◌, ap, subst, arith, append_assoc}
 use Rattle.grammar.specs.declared.symbol.Symbol.TheVariants as s
 use Rattle.grammar.specs.Semantics.{Reads, Refuses}
 use Rattle.grammar.specs.Meaning.{ClosesWith, IsFirstBad}
@@ -16,7 +16,7 @@ use Rattle.component_reader.specs.Grammar.{table, text}
 use Rattle.component_reader.specs.Ahead.{lookahead}
 use Rattle.component_reader.specs.State.{start}
 use Rattle.component_reader.specs.Meaning.{semantics, top_list}
-use Rattle.component_reader.specs.Component.{IsText, IsComponent, IsFirstBadIn}
+use Rattle.component_reader.specs.Component.{IsComponent, IsFirstBadIn}
 use Rattle.component_reader.proofs.Right.{is_right}
 use Rattle.component_reader.proofs.Steps.{fits_text}
 
