@@ -1,12 +1,12 @@
 -- The reader's effort falls with each step.
-use Rattle.std.proofs.Common.{◌≡◌, ℕ, ◌+◌, ◌-◌, ◌*◌, ◌<◌, ◌≤◌, Bool, true, false, nat_lt, List, [], ◌∷◌, ◌++◌, length, Some, refl, arith}
+use Rattle.std.proofs.Common.{◌≡◌, ℕ, ◌+◌, ◌*◌, ◌<◌, ◌≤◌, Bool, true, nat_lt, [], ◌∷◌, ◌++◌, Some, refl, arith}
 use Rattle.std.proofs.lemmas.Bool.{ltb-true}
 use Rattle.std.specs.List.{list_all}
 use Rattle.grammar.specs.declared.symbol.Symbol.TheVariants as s
 use Rattle.grammar.specs.Table.{production_at}
 use Rattle.grammar.proofs.Tests.{all_at}
 use Rattle.text_lexer.specs.Cursor.{Cursor}
-use Rattle.text_lexer.specs.Tokens.{Lexed, is_last}
+use Rattle.text_lexer.specs.Tokens.{Lexed}
 use Rattle.component_reader.specs.declared.table.Rule.{Rule}
 use Rattle.component_reader.specs.declared.table.Terminal.{Terminal}
 use Rattle.component_reader.specs.declared.table.Action.{Action}

@@ -1,8 +1,5 @@
 -- What a call of the lexer says.
-use Rattle.std.proofs.Common.{◌≡◌, ◌≢◌, ℕ, ◌<◌, ◌≤◌, Bool, true, false, length, Result, Ok, Err, IfOk, IfErr, OnErr, refl, sym, ◌∙◌, ap, subst, arith}
-use Rattle.text_lexer.specs.declared.token.BadToken.{BadToken}
-use Rattle.text_lexer.specs.declared.token.Token.{Token}
-use Rattle.text_lexer.specs.declared.token.TokenKind.{TokenKind}
+use Rattle.std.proofs.Common.{◌≡◌, ◌≢◌, ◌<◌, ◌≤◌, Bool, true, false, length, Ok, Err, IfOk, IfErr, OnErr, refl, sym, ◌∙◌, ap, arith}
 use Rattle.text_lexer.specs.declared.token.TokenKind.TheVariants.{End}
 use Rattle.text_lexer.specs.Cursor.{Cursor}
 use Rattle.text_lexer.specs.Lexing.{IsNext, IsBad, is_end, after}

@@ -1,14 +1,14 @@
 -- What follows from the definitions of texts.
-use Rattle.std.proofs.Common.{◌≡◌, ℕ, ◌+◌, List, [], ◌∷◌, ◌++◌, length, length-append, inl, refl, sym, ◌∙◌, ap, subst, arith, append_assoc}
+use Rattle.std.proofs.Common.{◌≡◌, ℕ, List, [], ◌∷◌, ◌++◌, length, length-append, inl, refl, sym, ◌∙◌, ap, subst, arith, append_assoc}
 use Rattle.grammar.specs.declared.symbol.Symbol.TheVariants as s
 use Rattle.grammar.specs.Semantics.{Reads, Refuses}
 use Rattle.grammar.specs.Meaning.{ClosesWith, IsFirstBad}
 use Rattle.grammar.proofs.Once as once
 use Rattle.text_lexer.specs.Tokens.{Lexed}
 use Rattle.text_lexer.proofs.TokenLists.{IsFront, front, is_front, ArePlaced, same, before, behind, are_placed}
-use Rattle.component_reader.specs.declared.component.Component.{Component}
-use Rattle.component_reader.specs.declared.component.Item.{Item}
-use Rattle.component_reader.specs.declared.refusal.Refusal.{Refusal}
+use Rattle.component_items.specs.declared.component.Component.{Component}
+use Rattle.component_items.specs.declared.component.Item.{Item}
+use Rattle.component_items.specs.declared.refusal.Refusal.{Refusal}
 use Rattle.component_reader.specs.declared.state.State.{State}
 use Rattle.component_reader.specs.declared.table.Rule.TheVariants as rule
 use Rattle.component_reader.specs.declared.table.Terminal.TheVariants as terminal
@@ -16,7 +16,7 @@ use Rattle.component_reader.specs.Grammar.{table, text}
 use Rattle.component_reader.specs.Ahead.{lookahead}
 use Rattle.component_reader.specs.State.{start}
 use Rattle.component_reader.specs.Meaning.{semantics, top_list}
-use Rattle.component_reader.specs.Component.{IsText, IsComponent, IsFirstBadIn}
+use Rattle.component_reader.specs.Component.{IsComponent, IsFirstBadIn}
 use Rattle.component_reader.proofs.Right.{is_right}
 use Rattle.component_reader.proofs.Steps.{fits_text}
 

@@ -1,12 +1,10 @@
 -- The steps of the reader.
-use Rattle.std.proofs.Common.{◌≡◌, ℕ, ◌+◌, ◌-◌, ◌<◌, ◌≤◌, Bool, true, false, not, ◌&&◌, ◌||◌, nat_lt, ◌==◌, List, [], ◌∷◌, ◌++◌, length, Option, Some, None, find, Result, Ok, Err, ◌⊎◌, inl, inr, refl, sym, ◌∙◌, ap, subst, arith, append_assoc}
+use Rattle.std.proofs.Common.{◌≡◌, ℕ, ◌+◌, ◌<◌, ◌≤◌, Bool, true, false, not, ◌&&◌, nat_lt, ◌==◌, List, [], ◌∷◌, ◌++◌, length, Option, Some, None, find, Ok, Err, inl, inr, refl, sym, ◌∙◌, ap, subst, arith, append_assoc}
 use Rattle.std.specs.List.{list_all}
-use Rattle.std.proofs.lemmas.Bool.{eqb-true}
-use Rattle.grammar.specs.declared.symbol.Symbol.{Symbol}
 use Rattle.grammar.specs.declared.symbol.Symbol.TheVariants as s
 use Rattle.grammar.specs.Table.{production_at}
 use Rattle.grammar.specs.Machine.{Fits}
-use Rattle.grammar.specs.Semantics.{Reads, Refuses}
+use Rattle.grammar.specs.Semantics.{Reads}
 use Rattle.grammar.specs.Stands.{Stands}
 use Rattle.grammar.proofs.Theory.{or_cases, or_left, and_cases, and_both}
 use Rattle.grammar.proofs.Tests.{all_at}
@@ -21,12 +19,12 @@ use Rattle.text_lexer.specs.declared.token.Reserved.TheVariants as word
 use Rattle.text_lexer.specs.declared.token.TokenKind.{TokenKind}
 use Rattle.text_lexer.specs.declared.token.TokenKind.TheVariants as token
 use Rattle.text_lexer.specs.Cursor.{Cursor, start_of}
-use Rattle.text_lexer.specs.Lexing.{is_end, after}
+use Rattle.text_lexer.specs.Lexing.{is_end}
 use Rattle.text_lexer.specs.Token.{IsTokenOf}
 use Rattle.text_lexer.specs.Tokens.{Lexed, IsGiven, past, is_last, Leads, here}
-use Rattle.component_reader.specs.declared.component.Component.{Component}
-use Rattle.component_reader.specs.declared.refusal.Refusal.{Refusal}
-use Rattle.component_reader.specs.declared.refusal.Refusal.TheVariants as f
+use Rattle.component_items.specs.declared.component.Component.{Component}
+use Rattle.component_items.specs.declared.refusal.Refusal.{Refusal}
+use Rattle.component_items.specs.declared.refusal.Refusal.TheVariants as f
 use Rattle.component_reader.specs.declared.state.State.{State}
 use Rattle.component_reader.specs.declared.table.Action.{Action}
 use Rattle.component_reader.specs.declared.table.Action.TheVariants as action
@@ -36,10 +34,10 @@ use Rattle.component_reader.specs.declared.table.Rule.{Rule}
 use Rattle.component_reader.specs.declared.table.Rule.TheVariants as rule
 use Rattle.component_reader.specs.declared.table.Terminal.{Terminal}
 use Rattle.component_reader.specs.declared.table.Terminal.TheVariants as terminal
-use Rattle.component_reader.specs.Grammar.{Symbols, kind_of, kind_of_token, kind_for, number_of, takes_reserved, matches, productions, table, text}
+use Rattle.component_reader.specs.Grammar.{Symbols, kind_of, kind_of_token, number_of, takes_reserved, matches, productions, table, text}
 use Rattle.component_reader.specs.Ahead.{lookahead, choice, is_among, all_rules}
 use Rattle.component_reader.specs.State.{start}
-use Rattle.component_reader.specs.Meaning.{semantics, accept, perform, effect, judged, fails, order, unexpected, refused, top_list}
+use Rattle.component_reader.specs.Meaning.{semantics, accept, perform, effect, fails, order, unexpected, top_list}
 use Rattle.component_reader.specs.Accepts.{Accepts}
 use Rattle.component_reader.specs.Reading.{IsReading, has_no_end, is_end_terminal, left}
 use Rattle.component_reader.specs.Component.{IsText, IsComponent, IsFirstBadIn, IsRefusedIn}

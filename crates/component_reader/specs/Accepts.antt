@@ -1,10 +1,10 @@
 -- What a step answers, where it may find no memory.
 use Rattle.std.specs.Prelude.{◌≡◌, Bool, true, Result, Ok, Err}
 use Rattle.text_lexer.specs.declared.token.Token.{Token}
-use Rattle.component_reader.specs.declared.refusal.Refusal.{Refusal}
-use Rattle.component_reader.specs.declared.refusal.Refusal.TheVariants.{Bad, NoMemory}
-use Rattle.component_reader.specs.declared.refusal.Why.TheVariants.{TooLarge}
-use Rattle.component_reader.specs.declared.refusal.Count.TheVariants.{Texts}
+use Rattle.component_items.specs.declared.refusal.Refusal.{Refusal}
+use Rattle.component_items.specs.declared.refusal.Refusal.TheVariants.{Bad, NoMemory}
+use Rattle.component_items.specs.declared.refusal.Why.TheVariants.{TooLarge}
+use Rattle.component_items.specs.declared.refusal.Count.TheVariants.{Texts}
 use Rattle.component_reader.specs.declared.state.State.{State}
 use Rattle.component_reader.specs.Meaning.{refused}
 

@@ -1,7 +1,6 @@
 -- What one token of lookahead tells about the grammar.
-use Rattle.std.specs.Prelude.{ℕ, ◌==◌, ◌||◌, ◌&&◌, ◌+◌, not, Bool, true, false, List, [], ◌∷◌}
+use Rattle.std.specs.Prelude.{ℕ, ◌==◌, Bool, true, false, List, [], ◌∷◌}
 use Rattle.std.specs.List.{list_any}
-use Rattle.grammar.specs.declared.symbol.Symbol.TheVariants as s
 use Rattle.grammar.specs.Lookahead.{Lookahead}
 use Rattle.component_reader.specs.declared.table.Kind.{Kind}
 use Rattle.component_reader.specs.declared.table.Kind.TheVariants as kind
@@ -9,7 +8,7 @@ use Rattle.component_reader.specs.declared.table.Terminal.{Terminal}
 use Rattle.component_reader.specs.declared.table.Terminal.TheVariants as terminal
 use Rattle.component_reader.specs.declared.table.Rule.{Rule}
 use Rattle.component_reader.specs.declared.table.Rule.TheVariants as rule
-use Rattle.component_reader.specs.Grammar.{number_of, kind_for, Symbols}
+use Rattle.component_reader.specs.Grammar.{number_of, kind_for}
 
 -- the kinds that the rule may begin with
 abbrev pub first : Rule → List Kind

@@ -5,10 +5,10 @@ use Rattle.grammar.specs.Meaning.{Means}
 use Rattle.grammar.specs.Semantics.{Refuses}
 use Rattle.text_lexer.specs.Cursor.{Cursor, start_of}
 use Rattle.text_lexer.specs.Tokens.{Lexed, IsGiven, Leads, AreTokens}
-use Rattle.component_reader.specs.declared.component.Component.{Component}
-use Rattle.component_reader.specs.declared.refusal.Refusal.{Refusal}
-use Rattle.component_reader.specs.declared.refusal.Refusal.TheVariants.{Bad, NoMemory}
-use Rattle.component_reader.specs.declared.refusal.Why.TheVariants.{Unexpected}
+use Rattle.component_items.specs.declared.component.Component.{Component}
+use Rattle.component_items.specs.declared.refusal.Refusal.{Refusal}
+use Rattle.component_items.specs.declared.refusal.Refusal.TheVariants.{Bad, NoMemory}
+use Rattle.component_items.specs.declared.refusal.Why.TheVariants.{Unexpected}
 use Rattle.component_reader.specs.declared.state.State.{State}
 use Rattle.component_reader.specs.Grammar.{table, text}
 use Rattle.component_reader.specs.State.{start}

@@ -1,4 +1,3 @@
-pub mod Why
 pub mod Grammar
 pub mod Ahead
 pub mod Scope

@@ -1,26 +1,24 @@
 -- What each token and each action does, and the checks of a token in their order.
-use Rattle.std.specs.Prelude.{◌≡◌, ℕ, ◌+◌, ◌-◌, ◌==◌, nat_lt, nat_le, ◌&&◌, ◌||◌, not, Bool, true, false, codes, unwrap_or, is_some, is_none, List, [], ◌∷◌, ◌++◌, length, find, slice_range, Option, Some, None, Result, Ok, Err, ℤ, pos, ◌-ℤ◌}
+use Rattle.std.specs.Prelude.{ℕ, ◌+◌, ◌==◌, nat_lt, nat_le, ◌&&◌, ◌||◌, not, Bool, true, false, codes, unwrap_or, is_some, is_none, List, [], ◌∷◌, ◌++◌, length, find, slice_range, Option, Some, None, Result, Ok, Err, pos, ◌-ℤ◌}
 use Rattle.std.specs.List.{list_any}
 use Rattle.std.specs.Option.{option_and_then}
 use Rattle.std.specs.Str.{bytes_eq}
 use Rattle.grammar.specs.Semantics.{Semantics}
-use Rattle.values.specs.declared.code.Code.{Code}
-use Rattle.values.specs.declared.code.Code.TheVariants.{Empty, Number, Word}
+use Rattle.values.specs.declared.code.Code.TheVariants.{Empty, Number}
 use Rattle.values.specs.declared.code.Op.{Op}
 use Rattle.values.specs.declared.code.Op.TheVariants as op
 use Rattle.values.specs.declared.expr.Expr.{Expr}
 use Rattle.values.specs.declared.expr.Expr.TheVariants as expr
 use Rattle.values.specs.Texts.{index_of, with_text}
-use Rattle.text_lexer.specs.declared.token.BadToken.{BadToken}
 use Rattle.text_lexer.specs.declared.token.Token.{Token}
 use Rattle.text_lexer.specs.Token.{decimal_value}
-use Rattle.component_reader.specs.declared.component.Item.{Item}
-use Rattle.component_reader.specs.declared.component.Item.TheVariants as item
-use Rattle.component_reader.specs.declared.refusal.Why.{Why}
-use Rattle.component_reader.specs.declared.refusal.Why.TheVariants as why
-use Rattle.component_reader.specs.declared.refusal.Count.TheVariants as count
-use Rattle.component_reader.specs.declared.refusal.Refusal.{Refusal}
-use Rattle.component_reader.specs.declared.refusal.Refusal.TheVariants.{Bad}
+use Rattle.component_items.specs.declared.component.Item.{Item}
+use Rattle.component_items.specs.declared.component.Item.TheVariants as item
+use Rattle.component_items.specs.declared.refusal.Why.{Why}
+use Rattle.component_items.specs.declared.refusal.Why.TheVariants as why
+use Rattle.component_items.specs.declared.refusal.Count.TheVariants as count
+use Rattle.component_items.specs.declared.refusal.Refusal.{Refusal}
+use Rattle.component_items.specs.declared.refusal.Refusal.TheVariants.{Bad}
 use Rattle.component_reader.specs.declared.table.Kind.{Kind}
 use Rattle.component_reader.specs.declared.table.Terminal.{Terminal}
 use Rattle.component_reader.specs.declared.table.Terminal.TheVariants as terminal

@@ -1,5 +1,5 @@
 -- The names that are seen at a place.
-use Rattle.std.specs.Prelude.{ℕ, ◌==◌, Option, Some, None, is_some, if◌then◌else◌, List, [], ◌∷◌}
+use Rattle.std.specs.Prelude.{ℕ, ◌==◌, Option, Some, None, if◌then◌else◌, List, [], ◌∷◌}
 use Rattle.component_reader.specs.declared.scope.Declared.{Declared}
 
 -- the id that a name was last declared with

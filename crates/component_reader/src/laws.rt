@@ -1,8 +1,8 @@
 //! What follows from the definitions alone.
 
 ghost use Rattle.std.specs.Prelude.{◌≡◌, ℕ, List};
-ghost use Rattle.component_reader.specs.declared.component.Component.{Component};
-ghost use Rattle.component_reader.specs.declared.refusal.Refusal.{Refusal};
+ghost use Rattle.component_items.specs.declared.component.Component.{Component};
+ghost use Rattle.component_items.specs.declared.refusal.Refusal.{Refusal};
 ghost use Rattle.component_reader.specs.Component.{IsComponent, IsFirstBadIn};
 
 /// Bytes are the text of at most one component.

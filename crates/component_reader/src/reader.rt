@@ -6,10 +6,9 @@ ghost use Rattle.component_reader.specs.Reading.{IsReading, effort};
 ghost use Rattle.component_reader.specs.Component.{IsText, IsComponent, IsRefused, IsRefusedIn};
 ghost use Rattle.component_reader.specs.Meaning as spec;
 
-use crate::component::Component;
-use crate::refusal::{Place, Refusal, Why};
 use crate::state::{State, refused};
 use crate::table::{Action, Rule, Terminal, kind_of, matches_kind, production};
+use component_items::{Component, Place, Refusal, Why};
 use grammar::{Stack, Symbol};
 use std::alloc::{AllocError, Global};
 use std::str;

@@ -9,10 +9,9 @@ ghost use Rattle.component_reader.specs.Meaning as spec;
 ghost use Rattle.component_reader.specs.State.{start};
 ghost use Rattle.component_reader.specs.Accepts.{Accepts, RefusesText};
 
-use crate::component::{Attrs, Item, Items};
-use crate::refusal::{Count, Place, Refusal, Why};
 use crate::scope::Scope;
 use crate::table::{Action, Terminal};
+use component_items::{Attrs, Count, Item, Items, Place, Refusal, Why};
 use grammar::Stack;
 use sqlite_items::Boxed;
 use std::alloc::{AllocError, Global};

@@ -1,7 +1,7 @@
 //! What a text is read to, with ample memory.
 
-use crate::component::Item;
 use crate::reader::read_component;
+use component_items::Item;
 use std::test::Fail;
 use values::Code;
 

@@ -1,7 +1,8 @@
 -- What the bytes that were read say of the bytes that the source held.
-use Rattle.std.proofs.Common.{◌≡◌, ℕ, ◌<◌, ◌≤◌, ◌+◌, List, [], ◌∷◌, ◌++◌, length, length-append, Option, Some, None, IfSome, refl, sym, ◌∙◌, ap, subst, arith}
-use Rattle.std.specs.Io.KnownBytes.{Consumes, IsAtEnd}
-use Rattle.component_reader.specs.declared.component.Component.{Component}
+use Rattle.std.proofs.Common.{◌≡◌, ℕ, ◌≤◌, List, [], ◌∷◌, ◌++◌, length, length-append, Option, Some, None, IfSome, refl, sym, ◌∙◌, ap, subst, arith}
+use Rattle.std.specs.Io.KnownBytes.{Consumes}
+use Rattle.component_items.specs.declared.component.Component.{Component}
+use Rattle.component_items.specs.declared.refusal.Place.{Place}
 use Rattle.component_reader.specs.Component.{IsComponent}
 use Rattle.page_program.specs.declared.finish.Outcome.{Outcome}
 use Rattle.page_program.specs.declared.finish.Outcome.TheVariants.{Page, BadText, ReadFault, WriteFault, NoMemory}
@@ -9,7 +10,6 @@ use Rattle.page_program.specs.Run.{Reading, ReadsComponent, HasNoComponent, IsAn
 use Rattle.page_program.specs.Outcome.{line_of}
 use Rattle.plain_evaluation.specs.Page.{page_of}
 use Rattle.outside.specs.Counts.{Rose}
-use Rattle.component_reader.specs.declared.refusal.Place.{Place}
 
 -- all that was held, and no more
 no_rest : (bytes rest : List ℕ) → bytes ≡ bytes ++ rest → rest ≡ []

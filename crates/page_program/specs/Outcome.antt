@@ -1,7 +1,7 @@
 -- The status of each outcome, and the line that it writes.
 use Rattle.std.specs.Prelude.{ℕ, codes, List, [], ◌++◌}
 use Rattle.std.specs.Fmt.{decimal}
-use Rattle.component_reader.specs.declared.refusal.Place.{Place}
+use Rattle.component_items.specs.declared.refusal.Place.{Place}
 use Rattle.page_program.specs.declared.finish.Outcome.{Outcome}
 use Rattle.page_program.specs.declared.finish.Outcome.TheVariants.{Page, BadText, ReadFault, WriteFault, NoMemory}
 

@@ -1,8 +1,8 @@
 -- What a run of the program owes, by what its source held.
 use Rattle.std.specs.Prelude.{◌≡◌, ℕ, List, Option, IfSome}
 use Rattle.std.specs.Io.KnownBytes.{IsAtEnd}
-use Rattle.component_reader.specs.declared.component.Component.{Component}
-use Rattle.component_reader.specs.declared.refusal.Place.{Place}
+use Rattle.component_items.specs.declared.component.Component.{Component}
+use Rattle.component_items.specs.declared.refusal.Place.{Place}
 use Rattle.component_reader.specs.Component.{IsComponent}
 use Rattle.outside.specs.Counts.{Rose}
 use Rattle.plain_evaluation.specs.Page.{page_of}

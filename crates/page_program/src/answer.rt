@@ -4,7 +4,8 @@ ghost use Rattle.std.specs.Prelude.{◌≡◌, IfOk};
 ghost use Rattle.page_program.specs.Run.{IsAnswer};
 
 use crate::finish::{Outcome, bad_text_line};
-use component_reader::{Refusal, read_component};
+use component_items::Refusal;
+use component_reader::read_component;
 use plain_evaluation::page_bytes;
 use std::alloc::Global;
 use values::NoMemory;

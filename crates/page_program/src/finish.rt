@@ -4,7 +4,7 @@ ghost use Rattle.std.specs.Prelude.{◌≡◌, IfOk};
 ghost use Rattle.std.specs.String.{string_bytes};
 ghost use Rattle.page_program.specs.Outcome as spec;
 
-use component_reader::Place;
+use component_items::Place;
 use std::alloc::{AllocError, Global};
 
 /// How a run of the program ended. Each outcome but `Page` and `WriteFault` writes a line of its own.

@@ -2,8 +2,8 @@
 
 ghost use Rattle.std.specs.Prelude.{◌≡◌, ◌≢◌, ℕ, List, IfOk, IfSome, Err};
 ghost use Rattle.std.specs.Io.KnownBytes.{Appends, IsAtEnd};
-ghost use Rattle.component_reader.specs.declared.component.Component.{Component};
-ghost use Rattle.component_reader.specs.declared.refusal.Place.{Place};
+ghost use Rattle.component_items.specs.declared.component.Component.{Component};
+ghost use Rattle.component_items.specs.declared.refusal.Place.{Place};
 ghost use Rattle.component_reader.specs.Component.{IsComponent};
 ghost use Rattle.outside.specs.Bytes.{AppendsPart};
 ghost use Rattle.outside.specs.Counts.{Rose};

@@ -2,7 +2,7 @@
 
 use crate::finish::{Finish, Outcome};
 use crate::run::page;
-use component_reader::Place;
+use component_items::Place;
 use outside::{Delays, MemorySink, MemorySource, OpenGate};
 use std::alloc::Global;
 use std::test::Fail;

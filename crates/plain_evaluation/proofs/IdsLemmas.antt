@@ -6,14 +6,14 @@ use Rattle.values.specs.declared.code.Code.{Code}
 use Rattle.values.specs.declared.expr.Expr.{Expr}
 use Rattle.values.specs.Evaluation.{value_of, reads_of}
 use Rattle.values.proofs.ReadsLemmas.{same_by_reads}
-use Rattle.component_reader.specs.declared.component.Attr.{Attr}
-use Rattle.component_reader.specs.declared.component.Attr.TheVariants as attr
-use Rattle.component_reader.specs.declared.component.Item.{Item}
-use Rattle.component_reader.specs.declared.component.Item.TheOpen as level
-use Rattle.component_reader.specs.declared.component.Item.TheOpen.{Item-F}
-use Rattle.component_reader.specs.declared.component.Item.TheViews.{roll-Item}
-use Rattle.component_reader.specs.declared.component.Item.TheVariants.{Signal, Memo}
-use Rattle.component_reader.specs.declared.component.Item.TheFolds.{fold-roll-Item, map-Item, ind-Item}
+use Rattle.component_items.specs.declared.component.Attr.{Attr}
+use Rattle.component_items.specs.declared.component.Attr.TheVariants as attr
+use Rattle.component_items.specs.declared.component.Item.{Item}
+use Rattle.component_items.specs.declared.component.Item.TheOpen as level
+use Rattle.component_items.specs.declared.component.Item.TheOpen.{Item-F}
+use Rattle.component_items.specs.declared.component.Item.TheViews.{roll-Item}
+use Rattle.component_items.specs.declared.component.Item.TheVariants.{Signal, Memo}
+use Rattle.component_items.specs.declared.component.Item.TheFolds.{fold-roll-Item, map-Item, ind-Item}
 use Rattle.plain_evaluation.specs.Scratch.{Values, no_values, with_value, after_attrs, in_order, scratch_step, after_item, after_items}
 use Rattle.plain_evaluation.specs.Ids.{attr_ids, ids_step, item_ids, ids_in, LeavesOut}
 use Rattle.plain_evaluation.proofs.ScratchLemmas.{after_item-Signal, after_item-Memo}
@@ -85,6 +85,7 @@ by_form (level.Element tag closed attrs known) id out values =
 by_form (level.Shown other expr) id out values =
     ap (λ v. v id) (layer (level.Shown other expr) values)
     ∙ with_value-other other (value_of expr values) values id (subst (λ ids. ¬ Contains ids id) (ids_layer (level.Shown other expr)) out)
+by_form other id out values = ap (λ v. v id) (layer (map-Item Known Item (λ k. k.0) other) values)
 
 framed : (item : Item) → IsFramed item
 framed = ind-Item IsFramed (λ x y is. subst (λ z. IsFramed (roll-Item z)) is (by_form y))

@@ -1,3 +1,4 @@
+mod Others
 pub mod ScratchLemmas
 pub mod IdsLemmas
 pub mod PageLemmas

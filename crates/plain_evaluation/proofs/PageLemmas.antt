@@ -5,14 +5,17 @@ use Rattle.std.proofs.lemmas.List.Edits.{between_more}
 use Rattle.std.proofs.lemmas.List.Concat.{flat_map-append}
 use Rattle.values.specs.declared.code.Code.{Code}
 use Rattle.values.specs.declared.expr.Expr.{Expr}
-use Rattle.component_reader.specs.declared.component.Attr.{Attr}
-use Rattle.component_reader.specs.declared.component.Item.{Item}
-use Rattle.component_reader.specs.declared.component.Item.TheOpen as level
-use Rattle.component_reader.specs.declared.component.Item.TheVariants.{Signal, Memo, Element, Shown, rolls-Signal, rolls-Memo, rolls-Element, rolls-Shown}
-use Rattle.component_reader.specs.declared.component.Item.TheFolds.{fold-roll-Item}
+use Rattle.component_items.specs.declared.component.Attr.{Attr}
+use Rattle.component_items.specs.declared.component.Item.{Item}
+use Rattle.component_items.specs.declared.component.Item.TheOpen as level
+use Rattle.component_items.specs.declared.component.Item.TheOpen.{Item-F}
+use Rattle.component_items.specs.declared.component.Item.TheViews.{roll-Item}
+use Rattle.component_items.specs.declared.component.Item.TheVariants.{Signal, Memo, Element, Shown, rolls-Signal, rolls-Memo, rolls-Element, rolls-Shown}
+use Rattle.component_items.specs.declared.component.Item.TheFolds.{fold-roll-Item, ind-Item}
 use Rattle.plain_evaluation.specs.Scratch.{Values}
 use Rattle.plain_evaluation.specs.Shown.{escaped_byte, escaped_value_byte, escaped, shown}
 use Rattle.plain_evaluation.specs.Page.{joined, opening, closing, page_step, item_bytes, items_bytes}
+use Rattle.plain_evaluation.proofs.Others.{IsOther}
 
 pub item_bytes-Signal : (texts : List (List ℕ)) (values : Values) (id name : ℕ) (start : Code) → item_bytes texts values (Signal id name start) ≡ []
 unfolding item_bytes
@@ -36,6 +39,17 @@ item_bytes-Element texts values tag closed attrs items =
     ap (item_bytes texts values) (sym (rolls-Element tag closed attrs items))
     ∙ fold-roll-Item (List ℕ) (page_step texts values) (level.Element tag closed attrs items)
     ∙ ap (λ inner. opening texts values tag attrs ++ inner ++ closing texts tag closed) (joined-map texts values items)
+
+other_by_form : (texts : List (List ℕ)) (values : Values) (x : Item-F Item) → IsOther (roll-Item x) → item_bytes texts values (roll-Item x) ≡ []
+unfolding item_bytes
+other_by_form texts values (level.Signal id name start) other = absurd (other.signal id name start (rolls-Signal id name start))
+other_by_form texts values (level.Memo id name expr) other = absurd (other.memo id name expr (rolls-Memo id name expr))
+other_by_form texts values (level.Element tag closed attrs items) other = absurd (other.element tag closed attrs items (rolls-Element tag closed attrs items))
+other_by_form texts values (level.Shown id expr) other = absurd (other.shown id expr (rolls-Shown id expr))
+other_by_form texts values x other = fold-roll-Item (List ℕ) (page_step texts values) x
+
+pub item_bytes-other : (texts : List (List ℕ)) (values : Values) (item : Item) → IsOther item → item_bytes texts values item ≡ []
+item_bytes-other texts values = ind-Item (λ item. IsOther item → item_bytes texts values item ≡ []) (λ x y is. other_by_form texts values x)
 
 escaped-append : (in_value : Bool) (xs ys : List ℕ) → escaped in_value (xs ++ ys) ≡ escaped in_value xs ++ escaped in_value ys
 escaped-append true xs ys = flat_map-append escaped_value_byte xs ys

@@ -4,12 +4,15 @@ use Rattle.values.specs.declared.code.Code.{Code}
 use Rattle.values.specs.declared.code.Code.TheVariants.{Empty}
 use Rattle.values.specs.declared.expr.Expr.{Expr}
 use Rattle.values.specs.Evaluation.{value_of}
-use Rattle.component_reader.specs.declared.component.Attr.{Attr}
-use Rattle.component_reader.specs.declared.component.Item.{Item}
-use Rattle.component_reader.specs.declared.component.Item.TheOpen as level
-use Rattle.component_reader.specs.declared.component.Item.TheVariants.{Signal, Memo, Element, Shown, rolls-Signal, rolls-Memo, rolls-Element, rolls-Shown}
-use Rattle.component_reader.specs.declared.component.Item.TheFolds.{fold-roll-Item}
+use Rattle.component_items.specs.declared.component.Attr.{Attr}
+use Rattle.component_items.specs.declared.component.Item.{Item}
+use Rattle.component_items.specs.declared.component.Item.TheOpen as level
+use Rattle.component_items.specs.declared.component.Item.TheOpen.{Item-F}
+use Rattle.component_items.specs.declared.component.Item.TheViews.{roll-Item}
+use Rattle.component_items.specs.declared.component.Item.TheVariants.{Signal, Memo, Element, Shown, rolls-Signal, rolls-Memo, rolls-Element, rolls-Shown}
+use Rattle.component_items.specs.declared.component.Item.TheFolds.{fold-roll-Item, ind-Item}
 use Rattle.plain_evaluation.specs.Scratch.{Values, code_at, with_value, after_attrs, in_order, scratch_step, after_item, after_items}
+use Rattle.plain_evaluation.proofs.Others.{IsOther}
 
 -- a place that is added with no value changes no id's value
 get_or-longer : (codes : List Code) (id : ℕ) → get_or (codes ++ Empty ∷ []) id Empty ≡ get_or codes id Empty
@@ -51,3 +54,14 @@ after_item-Element tag closed attrs items values =
     ap (λ item. after_item item values) (sym (rolls-Element tag closed attrs items))
     ∙ ap (λ f. f values) (fold-roll-Item (Values → Values) scratch_step (level.Element tag closed attrs items))
     ∙ in_order-map items (after_attrs attrs values)
+
+other_by_form : (x : Item-F Item) → IsOther (roll-Item x) → (values : Values) → after_item (roll-Item x) values ≡ values
+unfolding after_item
+other_by_form (level.Signal id name start) other values = absurd (other.signal id name start (rolls-Signal id name start))
+other_by_form (level.Memo id name expr) other values = absurd (other.memo id name expr (rolls-Memo id name expr))
+other_by_form (level.Element tag closed attrs items) other values = absurd (other.element tag closed attrs items (rolls-Element tag closed attrs items))
+other_by_form (level.Shown id expr) other values = absurd (other.shown id expr (rolls-Shown id expr))
+other_by_form x other values = ap (λ f. f values) (fold-roll-Item (Values → Values) scratch_step x)
+
+pub after_item-other : (item : Item) → IsOther item → (values : Values) → after_item item values ≡ values
+after_item-other = ind-Item (λ item. IsOther item → (values : Values) → after_item item values ≡ values) (λ x y is. other_by_form x)

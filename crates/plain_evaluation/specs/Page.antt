@@ -1,13 +1,13 @@
 -- The page of a component: the bytes that it writes.
 use Rattle.std.specs.Prelude.{ℕ, Bool, true, false, codes, List, [], ◌∷◌, ◌++◌}
 use Rattle.std.specs.List.{flat_map}
-use Rattle.component_reader.specs.declared.component.Attr.{Attr}
-use Rattle.component_reader.specs.declared.component.Attr.TheVariants as attr
-use Rattle.component_reader.specs.declared.component.Component.{Component}
-use Rattle.component_reader.specs.declared.component.Item.{Item}
-use Rattle.component_reader.specs.declared.component.Item.TheOpen as level
-use Rattle.component_reader.specs.declared.component.Item.TheOpen.{Item-F}
-use Rattle.component_reader.specs.declared.component.Item.TheFolds.{fold-Item}
+use Rattle.component_items.specs.declared.component.Attr.{Attr}
+use Rattle.component_items.specs.declared.component.Attr.TheVariants as attr
+use Rattle.component_items.specs.declared.component.Component.{Component}
+use Rattle.component_items.specs.declared.component.Item.{Item}
+use Rattle.component_items.specs.declared.component.Item.TheOpen as level
+use Rattle.component_items.specs.declared.component.Item.TheOpen.{Item-F}
+use Rattle.component_items.specs.declared.component.Item.TheFolds.{fold-Item}
 use Rattle.plain_evaluation.specs.Scratch.{Values, scratch}
 use Rattle.plain_evaluation.specs.Shown.{escaped, text_at, shown}
 
@@ -36,11 +36,13 @@ closing texts tag true = codes "</" ++ text_at texts tag ++ codes ">"
 closing texts tag false = []
 
 -- One item: declarations write nothing.
+-- The grammar that is read today makes no other item; any other writes nothing.
 abbrev pub page_step : List (List ℕ) → Values → Item-F (List ℕ) → List ℕ
 page_step texts values (level.Signal id name start) = []
 page_step texts values (level.Memo id name expr) = []
 page_step texts values (level.Element tag closed attrs items) = opening texts values tag attrs ++ joined items ++ closing texts tag closed
 page_step texts values (level.Shown id expr) = shown texts false (values id)
+page_step texts values _ = []
 
 unfoldable pub item_bytes : List (List ℕ) → Values → Item → List ℕ
 item_bytes texts values = fold-Item (List ℕ) (page_step texts values)

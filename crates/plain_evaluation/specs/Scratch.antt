@@ -3,13 +3,13 @@ use Rattle.std.specs.Prelude.{ℕ, ◌==◌, if◌then◌else◌, slice_index_or
 use Rattle.values.specs.declared.code.Code.{Code}
 use Rattle.values.specs.declared.code.Code.TheVariants.{Empty}
 use Rattle.values.specs.Evaluation.{value_of}
-use Rattle.component_reader.specs.declared.component.Attr.{Attr}
-use Rattle.component_reader.specs.declared.component.Attr.TheVariants as attr
-use Rattle.component_reader.specs.declared.component.Component.{Component}
-use Rattle.component_reader.specs.declared.component.Item.{Item}
-use Rattle.component_reader.specs.declared.component.Item.TheOpen as level
-use Rattle.component_reader.specs.declared.component.Item.TheOpen.{Item-F}
-use Rattle.component_reader.specs.declared.component.Item.TheFolds.{fold-Item}
+use Rattle.component_items.specs.declared.component.Attr.{Attr}
+use Rattle.component_items.specs.declared.component.Attr.TheVariants as attr
+use Rattle.component_items.specs.declared.component.Component.{Component}
+use Rattle.component_items.specs.declared.component.Item.{Item}
+use Rattle.component_items.specs.declared.component.Item.TheOpen as level
+use Rattle.component_items.specs.declared.component.Item.TheOpen.{Item-F}
+use Rattle.component_items.specs.declared.component.Item.TheFolds.{fold-Item}
 
 -- the value of each id
 abbrev pub Values : Type 0
@@ -44,11 +44,13 @@ in_order (one ∷ others) values = in_order others (one values)
 
 -- One item: a signal has its start, a memo and what is shown have the value of their expression over the
 -- values before it in the text, and an element gives values to its attributes and then to its items.
+-- The grammar that is read today makes no other item; any other gives no value.
 abbrev pub scratch_step : Item-F (Values → Values) → Values → Values
 scratch_step (level.Signal id name start) values = with_value id start values
 scratch_step (level.Memo id name expr) values = with_value id (value_of expr values) values
 scratch_step (level.Element tag closed attrs items) values = in_order items (after_attrs attrs values)
 scratch_step (level.Shown id expr) values = with_value id (value_of expr values) values
+scratch_step _ values = values
 
 unfoldable pub after_item : Item → Values → Values
 after_item = fold-Item (Values → Values) scratch_step

@@ -3,7 +3,7 @@ ghost use Rattle.std.specs.Prelude.{◌≡◌, ℕ, ◌≤◌, vec_len, IfOk, On
 ghost use Rattle.values.specs.Evaluation.{value_of};
 ghost use Rattle.plain_evaluation.specs.Scratch.{code_at, with_value, after_attr, after_attrs, after_item, after_items, scratch};
 
-use component_reader::{Attr, Component, Item};
+use component_items::{Attr, Component, Item};
 use std::alloc::Global;
 use values::{Code, Codes, Expr, NoMemory};
 
@@ -39,6 +39,8 @@ fn evaluate_item(item: &Item, values: &mut Vec<Code>) -> Result<(), NoMemory>
             evaluate_items(items.as_slice(), values)
         }
         Item::Shown { id, expr } => evaluate(expr, *id, values),
+        // The grammar that is read today makes no other item.
+        _ => Ok(()),
     }
 }
 

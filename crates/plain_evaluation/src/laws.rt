@@ -4,14 +4,14 @@ ghost use Rattle.std.specs.Prelude.{◌≡◌, ℕ, List, [], ◌∷◌, ◌++�
 ghost use Rattle.values.specs.declared.code.Code.{Code as CodeValue};
 ghost use Rattle.values.specs.declared.expr.Expr.{Expr as ExprValue};
 ghost use Rattle.values.specs.Evaluation.{value_of, reads_of};
-ghost use Rattle.component_reader.specs.declared.component.Component.{Component as ComponentValue};
-ghost use Rattle.component_reader.specs.declared.component.Item.{Item as ItemValue};
+ghost use Rattle.component_items.specs.declared.component.Component.{Component as ComponentValue};
+ghost use Rattle.component_items.specs.declared.component.Item.{Item as ItemValue};
 ghost use Rattle.plain_evaluation.specs.Scratch.{no_values, with_value, after_items, scratch};
 ghost use Rattle.plain_evaluation.specs.Ids.{LeavesOut};
 ghost use Rattle.plain_evaluation.specs.Shown.{escaped};
 ghost use Rattle.plain_evaluation.specs.Page.{item_bytes, page_of};
 
-use component_reader::{Attr, Item};
+use component_items::{Attr, Item};
 use values::Code;
 
 /// The page of no items is empty.

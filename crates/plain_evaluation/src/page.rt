@@ -7,7 +7,7 @@ ghost use Rattle.plain_evaluation.specs.Shown.{escaped, text_at, shown};
 ghost use Rattle.plain_evaluation.specs.Page.{attr_bytes, opening, closing, item_bytes, items_bytes, page_of};
 
 use crate::evaluation::{get, values_of};
-use component_reader::{Attr, Component, Item};
+use component_items::{Attr, Component, Item};
 use std::alloc::Global;
 use values::{Code, NoMemory, Texts};
 
@@ -60,6 +60,8 @@ impl Content<'_> {
                 self.put_closing(out, *tag, *closed)
             }
             Item::Shown { id, .. } => self.put_value(out, *id, false),
+            // The grammar that is read today makes no other item.
+            _ => Ok(()),
         }
     }
 

@@ -1,5 +1,5 @@
 use Rattle.std.proofs.Common.{refl, subst}
-use Rattle.component_reader.specs.declared.refusal.Refusal.TheVariants.{Bad}
+use Rattle.component_items.specs.declared.refusal.Refusal.TheVariants.{Bad}
 use Rattle.component_reader.specs.Component.{IsFirstBadIn, IsRefusedIn}
 use Rattle.component_reader.proofs.Steps.{refuses_all}
 use Rattle.component_reader.proofs.reader.read_component.Goals as goal

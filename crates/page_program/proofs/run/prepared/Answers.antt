@@ -1,4 +1,4 @@
-use Rattle.std.proofs.Common.{◌≡◌, ◌≤◌, length, sym, subst, arith}
+use Rattle.std.proofs.Common.{◌≤◌, sym, subst}
 use Rattle.page_program.specs.Run.{IsAnswer}
 use Rattle.page_program.proofs.Runs.{is_due}
 use Rattle.page_program.proofs.run.prepared.Goals as goal

@@ -1,10 +1,9 @@
-use Rattle.std.proofs.Common.{◌≡◌, [], true, false, Ok, Err, sym, ◌∙◌, ap, subst}
+use Rattle.std.proofs.Common.{◌≡◌, [], true, false, Ok, sym, ◌∙◌, ap, subst}
 use Rattle.std.proofs.lemmas.Result.{err_from_is_err_and}
-use Rattle.grammar.specs.declared.symbol.Symbol.TheVariants as s
 use Rattle.component_reader.specs.declared.table.Terminal.TheVariants.{End}
 use Rattle.component_reader.specs.Grammar.{matches, kind_of}
 use Rattle.component_reader.specs.Reading.{IsReading}
-use Rattle.component_reader.specs.Component.{IsText, IsRefusedIn}
+use Rattle.component_reader.specs.Component.{IsRefusedIn}
 use Rattle.component_reader.proofs.Steps.{at_end, bad_end, bad_end_check, no_match, refused_in}
 use Rattle.component_reader.proofs.reader.Reader.finish.Goals as goal
 

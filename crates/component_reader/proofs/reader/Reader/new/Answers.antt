@@ -1,12 +1,10 @@
-use Rattle.std.proofs.Common.{◌≡◌, ◌≤◌, ◌<◌, ◌∷◌, [], length, false, sym, ◌∙◌, ap, subst, arith}
+use Rattle.std.proofs.Common.{◌≡◌, ◌∷◌, [], sym, ◌∙◌, ap, subst, arith}
 use Rattle.grammar.specs.declared.symbol.Symbol.TheVariants as s
 use Rattle.text_lexer.specs.Cursor.{Cursor, start_of}
-use Rattle.text_lexer.specs.Tokens.{IsGiven, past, is_last}
+use Rattle.text_lexer.specs.Tokens.{IsGiven, past}
 use Rattle.component_reader.specs.declared.table.Rule.TheVariants.{Component}
-use Rattle.component_reader.specs.Grammar.{Symbols}
-use Rattle.component_reader.specs.State.{start}
 use Rattle.component_reader.specs.Reading.{IsReading}
-use Rattle.component_reader.proofs.Given.{Gives, gives}
+use Rattle.component_reader.proofs.Given.{gives}
 use Rattle.component_reader.proofs.Steps.{at_start}
 use Rattle.component_reader.proofs.reader.Reader.new.Goals as goal
 

@@ -1,11 +1,10 @@
-use Rattle.std.proofs.Common.{◌≡◌, ◌∷◌, ◌<◌, true, false, Ok, Err, IfErr, sym, ◌∙◌, ap, subst}
+use Rattle.std.proofs.Common.{◌≡◌, ◌∷◌, ◌<◌, true, false, Ok, sym, ◌∙◌, ap, subst}
 use Rattle.std.proofs.lemmas.Result.{err_from_is_err_and}
 use Rattle.grammar.specs.declared.symbol.Symbol.TheVariants.{Terminal}
-use Rattle.text_lexer.specs.Tokens.{Lexed}
 use Rattle.component_reader.specs.Grammar.{matches, kind_of}
-use Rattle.component_reader.specs.Reading.{IsReading, effort, left}
+use Rattle.component_reader.specs.Reading.{IsReading, effort}
 use Rattle.component_reader.specs.Component.{IsRefusedIn}
-use Rattle.component_reader.proofs.Given.{Gives, gives}
+use Rattle.component_reader.proofs.Given.{gives}
 use Rattle.component_reader.proofs.Effort.{less_terminal}
 use Rattle.component_reader.proofs.Steps.{at_terminal, fewer_left, bad_terminal, no_match, refused_in, token_of, by_error}
 use Rattle.component_reader.proofs.reader.Reader.take.Goals as goal
