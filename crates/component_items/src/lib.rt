@@ -2,6 +2,7 @@
 //! of each component.
 #![tactic(auto)]
 
+mod around;
 mod component;
 mod refusal;
 
