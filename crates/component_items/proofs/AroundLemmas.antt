@@ -15,7 +15,7 @@ use Rattle.component_items.specs.declared.component.Item.TheFolds.{fold_out-Item
 use Rattle.component_items.specs.Around.{Around, Listed, named, nameless, within, listed_fields, listed_attrs, listed_all, listed_step, item_listed, items_listed}
 use Rattle.component_items.specs.declared.around.Own.{Own}
 use Rattle.component_items.specs.declared.around.Own.TheVariants as own
-use Rattle.component_items.specs.Own.{place, listed_as, own_step, own_listed, held_step, held, inside_step, inside, owner_among, path_among}
+use Rattle.component_items.specs.Own.{place, listed_as, own_path, own_step, own_listed, held_step, held, inside_step, inside, owner_among, path_among}
 
 listed_all-map : (items : List Item) (around : Around) → listed_all around (map item_listed items) ≡ items_listed items around
 listed_all-map [] around = refl
@@ -83,6 +83,11 @@ pub owner_own : (item : Item) (id owner : ℕ) (areas : List ℕ) (r : Option Ow
 owner_own item id owner areas None has finds = cc
 owner_own item id owner areas (Some (own.Named name)) has finds = ap (option_map (λ l. l.owner)) (found_own item id (place owner areas) (named id name (place owner areas)) (finds (place owner areas)))
 owner_own item id owner areas (Some own.Nameless) has finds = ap (option_map (λ l. l.owner)) (found_own item id (place owner areas) (nameless id (place owner areas)) (finds (place owner areas)))
+
+-- and the path of the areas of its place, with its name
+pub path_own : (item : Item) (id owner : ℕ) (areas : List ℕ) (one : Own) → ((around : Around) → find (λ l. l.id == id) (own_listed item around) ≡ Some (listed_as id around one)) → path_among id (item_listed item (place owner areas)) ≡ Some (areas ++ own_path one)
+path_own item id owner areas (own.Named name) finds = ap (option_map (λ l. l.path)) (found_own item id (place owner areas) (named id name (place owner areas)) (finds (place owner areas)))
+path_own item id owner areas own.Nameless finds = ap (option_map (λ l. l.path)) (found_own item id (place owner areas) (nameless id (place owner areas)) (finds (place owner areas))) ∙ ap Some (sym (append-nil areas))
 
 -- an id that an item does not take itself is among the items that it holds, if it is there
 pub found_inside : (item : Item) (id : ℕ) (around : Around) (r : Option Own) → is_some r ≡ false → find (λ l. l.id == id) (own_listed item around) ≡ option_map (listed_as id around) r → find (λ l. l.id == id) (item_listed item around) ≡ find (λ l. l.id == id) (items_listed (held item) (inside item around))

@@ -19,6 +19,11 @@ abbrev pub listed_as : ℕ → Around → Own → Listed
 listed_as id around (own.Named name) = named id name around
 listed_as id around own.Nameless = nameless id around
 
+-- what it adds to the names of the areas around it
+abbrev pub own_path : Own → List ℕ
+own_path (own.Named name) = name ∷ []
+own_path own.Nameless = []
+
 abbrev pub own_step : Item-F Item → Around → List Listed
 own_step (level.Signal id name start) around = named id name around ∷ []
 own_step (level.Memo id name expr) around = named id name around ∷ []

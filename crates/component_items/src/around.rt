@@ -1,11 +1,13 @@
 //! What stands around an id: its owner, and the path by which it is named.
-ghost use Rattle.std.specs.Prelude.{◌≡◌, ℕ, suc, ◌+◌, ◌==◌, List, [], ◌∷◌, Bool, true, false, Some, None, if◌then◌else◌, IfOk};
+ghost use Rattle.std.specs.Prelude.{◌≡◌, ℕ, suc, ◌+◌, ◌==◌, List, [], ◌∷◌, Bool, true, false, Some, None, if◌then◌else◌, IfOk, OnOk, ◌++◌};
 ghost use Rattle.std.specs.List.{find};
 ghost use Rattle.std.specs.Option.{option_map};
 ghost use Rattle.component_items.specs.Around.{Around, named, nameless, listed_attr, listed_attrs, listed_fields, items_listed, item_listed, owner_of_id, path_of_id};
-ghost use Rattle.component_items.specs.Own.{place, listed_as, own_listed, owner_among as owner_of_listed, path_among as path_of_listed};
+ghost use Rattle.component_items.specs.Own.{place, listed_as, own_listed, own_path, owner_among as owner_of_listed, path_among as path_of_listed};
 
 use crate::component::{Attr, Component, Item};
+use std::alloc::Global;
+use values::{NoMemory, Numbers};
 
 impl Component {
     /// The innermost area around the id, as an owner: 0 at the top. `None` exactly where no item takes the
@@ -14,6 +16,19 @@ impl Component {
         ensures { result ≡ owner_of_id self.now id }
     {
         owner_among(self.items.as_slice(), id, 0)
+    }
+
+    /// The path by which the id is named: the names of the areas around it, the outermost first, and then the
+    /// name that it is declared with, if it has one. `None` exactly where no item takes the id
+    /// (`docs/SEMANTICS.md`, "Components").
+    pub fn path_of(&self, alloc: Global, id: u32) -> Result<Option<Numbers>, NoMemory>
+        ensures { IfOk result (λ path. path ≡ path_of_id self.now id) }
+    {
+        let mut path = Vec::new(alloc);
+        if path_among(self.items.as_slice(), id, &mut path)? {
+            return Ok(Some(Numbers::from_vec(path)));
+        }
+        Ok(None)
     }
 }
 
@@ -45,6 +60,56 @@ fn owner_within(item: &Item, id: u32, owner: u32) -> Option<u32>
         }
         _ => None,
     }
+}
+
+/// Whether one of the items takes the id. `path` has the names of the areas around them, and then becomes the
+/// path of the id; otherwise it stays.
+#[cycle(path)]
+fn path_among(items: &[Item], id: u32, path: &mut Vec<u32>) -> Result<bool, NoMemory>
+    ensures path { IfOk result (λ found. (owner : ℕ) → path_of_listed id (items_listed items.now (place owner path.old.items)) ≡ (if found then Some path.new.items else None)) }
+    ensures same { IfOk result (λ found. found ≡ false → path.new.items ≡ path.old.items) }
+{
+    for item in items {
+        if path_within(item, id, path)? {
+            return Ok(true);
+        }
+    }
+    Ok(false)
+}
+
+#[cycle(path)]
+fn path_within(item: &Item, id: u32, path: &mut Vec<u32>) -> Result<bool, NoMemory>
+    ensures path { IfOk result (λ found. (owner : ℕ) → path_of_listed id (item_listed item.now (place owner path.old.items)) ≡ (if found then Some path.new.items else None)) }
+    ensures same { IfOk result (λ found. found ≡ false → path.new.items ≡ path.old.items) }
+{
+    if let Some(own) = own_name(item, id) {
+        put_name(own, path)?;
+        return Ok(true);
+    }
+    match item {
+        Item::Area { name, items, .. } => {
+            path.push(*name)?;
+            if path_among(items.as_slice(), id, path)? {
+                return Ok(true);
+            }
+            path.pop();
+            Ok(false)
+        }
+        Item::If { items, .. } | Item::Each { items, .. } | Item::Element { items, .. } => {
+            path_among(items.as_slice(), id, path)
+        }
+        _ => Ok(false),
+    }
+}
+
+/// Adds the name, if there is one.
+fn put_name(own: Own, path: &mut Vec<u32>) -> Result<(), NoMemory>
+    ensures { OnOk result (path.new.items ≡ path.old.items ++ own_path own) }
+{
+    if let Own::Named(name) = own {
+        path.push(name)?;
+    }
+    Ok(())
 }
 
 /// How an item names an id of its own.
