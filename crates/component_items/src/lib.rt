@@ -4,6 +4,7 @@
 
 mod around;
 mod component;
+pub mod laws;
 mod refusal;
 
 pub use component::{Attr, Attrs, Component, Item, Items};
