@@ -39,7 +39,6 @@ fold-Text {A} step text = ap (fold-Item A step) (sym (rolls-Text text)) ∙ fold
 pub fold-Shown : {A : Type 0} (step : Item-F A → A) (id : ℕ) (expr : Expr) → fold-Item A step (Shown id expr) ≡ step (level.Shown id expr)
 fold-Shown {A} step id expr = ap (fold-Item A step) (sym (rolls-Shown id expr)) ∙ fold-roll-Item A step (level.Shown id expr)
 
-
 pub at-Signal : {X Y : Type 0} (step : Item-F (X → Y) → X → Y) (id name : ℕ) (start : Code) (x : X) → fold-Item (X → Y) step (Signal id name start) x ≡ step (level.Signal id name start) x
 at-Signal step id name start x = ap (λ f. f x) (fold-Signal step id name start)
 

@@ -53,7 +53,9 @@ fn owner_within(item: &Item, id: u32, owner: u32) -> Option<u32>
     }
     match item {
         Item::Area {
-            owner: area, items, ..
+            owner: area,
+            items,
+            ..
         } => owner_among(items.as_slice(), id, *area),
         Item::If { items, .. } | Item::Each { items, .. } | Item::Element { items, .. } => {
             owner_among(items.as_slice(), id, owner)

@@ -9,3 +9,6 @@ mod refusal;
 
 pub use component::{Attr, Attrs, Component, Item, Items};
 pub use refusal::{Count, Place, Refusal, Why};
+
+#[cfg(test)]
+mod tests;

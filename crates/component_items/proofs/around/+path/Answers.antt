@@ -16,9 +16,9 @@ pub path_among-returns-then-branch-clause-path : goal.path_among-returns-then-br
 path_among-returns-then-branch-clause-path t c = λ owner.
     let start = c.args.path.now.items in
     let here : path_among c.args.id (item_listed c.item-item.result (place owner start)) ≡ Some c.path_within.new.path.items =
-        ap (λ p. path_among c.args.id (item_listed c.item-item.result (place owner p))) (sym c.loop-item.invariant.0)
-        ∙ c.in_ok-path_within.ensures.path owner
-        ∙ where_found _ _ c.if-branch.true
+    ap (λ p. path_among c.args.id (item_listed c.item-item.result (place owner p))) (sym c.loop-item.invariant.0)
+    ∙ c.in_ok-path_within.ensures.path owner
+    ∙ where_found _ _ c.if-branch.true
     in
     c.loop-item.invariant.1 owner ∙ found_here (λ l. l.path) c.args.id c.args.items.now c.loop-item.item-index c.item-item.result (place owner start) c.loop-item-test.true c.item-item.is _ here
 
@@ -26,9 +26,9 @@ pub path_among-loop-item-preserved : goal.path_among-loop-item-preserved
 path_among-loop-item-preserved t c =
     let start = c.args.path.now.items in
     let none : (owner : ℕ) → path_among c.args.id (item_listed c.item-item.result (place owner start)) ≡ None = λ owner.
-        ap (λ p. path_among c.args.id (item_listed c.item-item.result (place owner p))) (sym c.loop-item.invariant.0)
-        ∙ c.in_ok-path_within.ensures.path owner
-        ∙ where_none _ _ c.if-branch.false
+    ap (λ p. path_among c.args.id (item_listed c.item-item.result (place owner p))) (sym c.loop-item.invariant.0)
+    ∙ c.in_ok-path_within.ensures.path owner
+    ∙ where_none _ _ c.if-branch.false
     in
     (c.in_ok-path_within.ensures.same c.if-branch.false ∙ c.loop-item.invariant.0, λ owner. c.loop-item.invariant.1 owner ∙ found_behind (λ l. l.path) c.args.id c.args.items.now c.loop-item.item-index c.item-item.result (place owner start) c.loop-item-test.true c.item-item.is (none owner))
 
@@ -60,19 +60,19 @@ path_within-returns-else-branch-clause-path t c = λ owner.
 pub path_within-returns-in_default-item : goal.path_within-returns-in_default-item
 path_within-returns-in_default-item t c = record {
   path = λ owner.
-    let around = place owner c.args.path.now.items in
-    ap (option_map (λ l. l.path)) (found_held c.args.item.now c.args.id around (c.in_default.ensures around))
-    ∙ ap (λ items. path_among c.args.id (items_listed items (inside c.args.item.now around))) (held_none c.args.item.now c.in_default-item.not-Area c.in_default-item.not-If c.in_default-item.not-Each c.in_default-item.not-Element);
-  same = λ is. refl
+      let around = place owner c.args.path.now.items in
+      ap (option_map (λ l. l.path)) (found_held c.args.item.now c.args.id around (c.in_default.ensures around))
+      ∙ ap (λ items. path_among c.args.id (items_listed items (inside c.args.item.now around))) (held_none c.args.item.now c.in_default-item.not-Area c.in_default-item.not-If c.in_default-item.not-Each c.in_default-item.not-Element);
+  same = λ is. refl;
 }
 
 pub path_within-returns-in-If-clause-path : goal.path_within-returns-in-If-clause-path
 path_within-returns-in-If-clause-path t c =
     let start = c.args.path.now.items in
     let inner : (owner : ℕ) → path_among c.args.id (items_listed c.as_slice-in-If.result.now (place owner start)) ≡ path_among c.args.id (item_listed c.args.item.now (place owner start)) = λ owner.
-        ap (λ items. path_among c.args.id (items_listed items (place owner start))) c.as_slice-in-If.ensures
-        ∙ sym (ap (path_among c.args.id) (held_block c.args.item.now c.in-If.items (place owner start) c.in-If.is))
-        ∙ sym (ap (option_map (λ l. l.path)) (found_held c.args.item.now c.args.id (place owner start) (c.in_default.ensures (place owner start))))
+    ap (λ items. path_among c.args.id (items_listed items (place owner start))) c.as_slice-in-If.ensures
+    ∙ sym (ap (path_among c.args.id) (held_block c.args.item.now c.in-If.items (place owner start) c.in-If.is))
+    ∙ sym (ap (option_map (λ l. l.path)) (found_held c.args.item.now c.args.id (place owner start) (c.in_default.ensures (place owner start))))
     in
     let P : (ℕ → Option (List ℕ)) → Type 0 = λ f. IfOk c.path_among-in-If.result (λ found. (owner : ℕ) → f owner ≡ (if found then Some c.path_among-in-If.new.path.items else None)) in
     let same : (λ (owner : ℕ). path_among c.args.id (items_listed c.as_slice-in-If.result.now (place owner start))) ≡ (λ (owner : ℕ). path_among c.args.id (item_listed c.args.item.now (place owner start))) = λ i owner. inner owner i in
