@@ -130,19 +130,9 @@ fn own_name(item: &Item, id: u32) -> Option<Own>
         | Item::Memo { id: own, name, .. }
         | Item::Effect { id: own, name, .. }
         | Item::Resource { id: own, name, .. }
-        | Item::Area { id: own, name, .. } => {
-            if *own == id {
-                Some(Own::Named(*name))
-            } else {
-                None
-            }
-        }
+        | Item::Area { id: own, name, .. } => (*own == id).then_some(Own::Named(*name)),
         Item::If { id: own, .. } | Item::Each { id: own, .. } | Item::Shown { id: own, .. } => {
-            if *own == id {
-                Some(Own::Nameless)
-            } else {
-                None
-            }
+            (*own == id).then_some(Own::Nameless)
         }
         Item::Load { id: own, name, .. } => own_with_key(*own, *name, id),
         Item::Store {
@@ -150,17 +140,8 @@ fn own_name(item: &Item, id: u32) -> Option<Own>
             name,
             fields,
             ..
-        } => match own_with_key(*own, *name, id) {
-            Some(found) => Some(found),
-            None => own_field(*own, fields.as_slice(), id),
-        },
-        Item::Element { attrs, .. } => {
-            if attrs_take(attrs.as_slice(), id) {
-                Some(Own::Nameless)
-            } else {
-                None
-            }
-        }
+        } => own_with_key(*own, *name, id).or_else(|| own_field(*own, fields.as_slice(), id)),
+        Item::Element { attrs, .. } => { attrs_take(attrs.as_slice(), id).then_some(Own::Nameless) }
         Item::Cleanup { .. } | Item::Text { .. } => None,
     }
 }
