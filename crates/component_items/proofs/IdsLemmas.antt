@@ -1,6 +1,7 @@
 -- The ids that are listed are those that the items take.
-use Rattle.std.proofs.Common.{◌≡◌, ℕ, suc, ◌+◌, List, [], ◌∷◌, ◌++◌, length, map, refl, sym, ap, subst, ◌∙◌, arith}
-use Rattle.std.specs.List.{flat_map, concat, range_with_len}
+use Rattle.std.proofs.Common.{◌≡◌, ℕ, zero, suc, ◌+◌, ◌<◌, ◌==◌, Bool, true, false, if◌then◌else◌, Option, Some, None, Contains, get_or, ◌↔◌, List, [], ◌∷◌, ◌++◌, length, map, refl, sym, ap, subst, ◌∙◌, arith}
+use Rattle.std.specs.Option.{option_map}
+use Rattle.std.specs.List.{find, flat_map, concat, range_with_len}
 use Rattle.std.proofs.lemmas.List.{map-append}
 use Rattle.component_items.specs.declared.component.Attr.{Attr}
 use Rattle.component_items.specs.declared.component.Attr.TheVariants as attr
@@ -95,3 +96,32 @@ items_are_listed (item ∷ items) around =
     ids_of-append (item_listed item around) (items_listed items around)
     ∙ ap (λ ids. ids ++ ids_of (items_listed items around)) (item_is_listed item around)
     ∙ ap (λ ids. item_ids item ++ ids) (items_are_listed items around)
+
+-- ---- ids that are not listed
+
+is_absent : (id : ℕ) (listed : List Listed) → find (λ l. l.id == id) listed ≡ None → ¬ Contains (ids_of listed) id
+is_absent id [] none c = omega (arith, c.1)
+is_absent id (l ∷ listed) none c = at (l.id == id) refl c.0 c.1 c.2 none (is_absent id listed)
+  where
+    at : (same : Bool) → (l.id == id) ≡ same → (k : ℕ) → k < length (l.id ∷ ids_of listed) → get_or (l.id ∷ ids_of listed) k id ≡ id → (if same then Some l else find (λ l. l.id == id) listed) ≡ None → (find (λ l. l.id == id) listed ≡ None → ¬ Contains (ids_of listed) id) → ⊥
+    at true is k within here none others = cc
+    at false is zero within here none others = grind arith
+    at false is (suc k) within here none others = others none (k, omega (arith, within), here)
+
+is_not_found : (id : ℕ) (listed : List Listed) → ¬ Contains (ids_of listed) id → find (λ l. l.id == id) listed ≡ None
+is_not_found id [] out = refl
+is_not_found id (l ∷ listed) out = at (l.id == id) refl (is_not_found id listed (λ c. out (suc c.0, omega (arith, c.1), c.2)))
+  where
+    at : (same : Bool) → (l.id == id) ≡ same → find (λ l. l.id == id) listed ≡ None → (if same then Some l else find (λ l. l.id == id) listed) ≡ None
+    at true is others = let e : l.id ≡ id = grind arith in absurd (out (zero, omega arith, e))
+    at false is others = others
+
+none_of : {A : Type 0} (f : Listed → A) (found : Option Listed) → option_map f found ≡ None → found ≡ None
+none_of f None is = refl
+none_of f (Some l) is = cc
+
+-- what an id has by its place it has exactly where an item takes it
+pub listed_exactly : {A : Type 0} (f : Listed → A) (items : List Item) (around : Around) (id : ℕ) → (option_map f (find (λ l. l.id == id) (items_listed items around)) ≡ None) ↔ ¬ Contains (ids_in items) id
+listed_exactly f items around id =
+    ( λ none. subst (λ ids. ¬ Contains ids id) (items_are_listed items around) (is_absent id (items_listed items around) (none_of f _ none))
+    , λ out. ap (option_map f) (is_not_found id (items_listed items around) (subst (λ ids. ¬ Contains ids id) (sym (items_are_listed items around)) out)))

@@ -1,7 +1,8 @@
 //! What follows from the definitions alone. Each is the contract of a function that does nothing.
-ghost use Rattle.std.specs.Prelude.{◌≡◌, ℕ, List, [], ◌∷◌, Bool, true, false, Some, map, pos};
+ghost use Rattle.std.specs.Prelude.{◌≡◌, ℕ, List, [], ◌∷◌, Bool, true, false, Some, None, Contains, ◌↔◌, map, pos};
 ghost use Rattle.values.specs.declared.code.Code.{Code as CodeValue};
 ghost use Rattle.values.specs.declared.expr.Expr.{Expr as ExprValue};
+ghost use Rattle.component_items.specs.declared.component.Component.{Component as ComponentValue};
 ghost use Rattle.component_items.specs.declared.component.Item.{Item as ItemValue};
 ghost use Rattle.component_items.specs.Around.{Around, items_listed, owner_of_id, path_of_id};
 ghost use Rattle.component_items.specs.Counts.{nodes_of};
@@ -14,6 +15,12 @@ use values::{Code, Expr};
 /// Each id that items take has its owner and path, in text order.
 pub fn each_id_is_listed()
     ensures { (items : List ItemValue) (around : Around) → map (λ l. l.id) (items_listed items around) ≡ ids_in items }
+{}
+
+/// An id has an owner and a path exactly where an item takes it.
+pub fn other_ids_have_no_owner()
+    ensures owner { (component : ComponentValue) (id : ℕ) → (owner_of_id component id ≡ None) ↔ ¬ Contains (ids_in component.items) id }
+    ensures path { (component : ComponentValue) (id : ℕ) → (path_of_id component id ≡ None) ↔ ¬ Contains (ids_in component.items) id }
 {}
 
 /// Worked rows of the definitions.
