@@ -122,6 +122,7 @@ none_of f (Some l) is = cc
 
 -- what an id has by its place it has exactly where an item takes it
 pub listed_exactly : {A : Type 0} (f : Listed → A) (items : List Item) (around : Around) (id : ℕ) → (option_map f (find (λ l. l.id == id) (items_listed items around)) ≡ None) ↔ ¬ Contains (ids_in items) id
-listed_exactly f items around id =
-    ( λ none. subst (λ ids. ¬ Contains ids id) (items_are_listed items around) (is_absent id (items_listed items around) (none_of f _ none))
-    , λ out. ap (option_map f) (is_not_found id (items_listed items around) (subst (λ ids. ¬ Contains ids id) (sym (items_are_listed items around)) out)))
+listed_exactly f items around id = (
+  λ none. subst (λ ids. ¬ Contains ids id) (items_are_listed items around) (is_absent id (items_listed items around) (none_of f _ none)),
+  λ out. ap (option_map f) (is_not_found id (items_listed items around) (subst (λ ids. ¬ Contains ids id) (sym (items_are_listed items around)) out)),
+)

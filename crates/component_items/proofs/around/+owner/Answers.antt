@@ -1,6 +1,6 @@
-use Rattle.std.proofs.Common.{◌≡◌, List, [], ◌∷◌, ◌++◌, ℕ, sym, ap, ◌∙◌, arith}
+use Rattle.std.proofs.Common.{[], ◌∷◌, ◌++◌, sym, ap, ◌∙◌}
 use Rattle.component_items.specs.Around.{items_listed, within}
-use Rattle.component_items.specs.Own.{place, held, inside, owner_among}
+use Rattle.component_items.specs.Own.{place, inside, owner_among}
 use Rattle.std.specs.Option.{option_map}
 use Rattle.component_items.proofs.AroundLemmas.{owner_own, found_here, found_behind, found_inside, held_area, held_block, held_none}
 use Rattle.component_items.proofs.around.+owner.Goals as goal

@@ -1,6 +1,6 @@
 use Rattle.std.proofs.Common.{◌≡◌, List, [], ◌∷◌, ◌++◌, ℕ, Bool, true, false, Option, Some, None, if◌then◌else◌, IfOk, sym, ap, subst, ◌∙◌, arith, refl}
 use Rattle.component_items.specs.Around.{items_listed, item_listed, within}
-use Rattle.component_items.specs.Own.{place, held, inside, path_among, own_path}
+use Rattle.component_items.specs.Own.{place, inside, path_among}
 use Rattle.std.specs.Option.{option_map}
 use Rattle.component_items.proofs.AroundLemmas.{path_own, found_held, found_here, found_behind, held_area, held_block, held_none}
 use Rattle.component_items.proofs.around.+path.Goals as goal

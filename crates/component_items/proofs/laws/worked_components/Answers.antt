@@ -1,4 +1,4 @@
-use Rattle.std.proofs.Common.{◌≡◌, [], ◌∷◌, refl, arith}
+use Rattle.std.proofs.Common.{◌≡◌, [], ◌∷◌}
 use Rattle.component_items.specs.Ids.{item_ids, item_owners}
 use Rattle.component_items.specs.Around.{item_listed}
 use Rattle.values.specs.declared.code.Code.TheVariants.{Empty}
@@ -6,7 +6,7 @@ use Rattle.values.specs.declared.expr.Expr.TheVariants.{Read}
 use Rattle.component_items.specs.declared.component.Item.TheVariants.{Store, Each, Shown}
 use Rattle.component_items.specs.Counts.{item_nodes, item_maximum, maximum_in}
 use Rattle.component_items.specs.Kept.{item_stands, item_sees}
-use Rattle.values.proofs.PlanLemmas.{rows_in-Lit, rows_in-Read}
+use Rattle.values.proofs.PlanLemmas.{rows_in-Read}
 use Rattle.component_items.proofs.FoldLemmas.{fold-Signal, fold-Memo, fold-Load, fold-Store, fold-Area, fold-Each, fold-Element, fold-Text, fold-Shown, at-Signal, at-Memo, at-Store, at-Area, at-If, at-Each, at-Element, at-Shown}
 use Rattle.component_items.proofs.laws.worked_components.Goals as goal
 
