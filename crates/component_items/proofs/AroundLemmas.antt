@@ -96,6 +96,23 @@ found_inside item id around (Some one) has finds = cc
 
 -- ---- the items that an item holds
 
+pub held_items : (item : Item) (items : List Item) → ((id : ℕ) × (name : ℕ) × (owner : ℕ) × (item ≡ Area id name owner items)) ⊎ (((id : ℕ) × (cond : Expr) × (item ≡ If id cond items)) ⊎ (((id : ℕ) × (store : ℕ) × (item ≡ Each id store items)) ⊎ ((tag : ℕ) × (closed : Bool) × (attrs : List Attr) × (item ≡ Element tag closed attrs items)))) → held item ≡ items
+held_items item items (inl h) = ap held h.3 ∙ ap held_step (outs-Area h.0 h.1 h.2 items)
+held_items item items (inr (inl h)) = ap held h.2 ∙ ap held_step (outs-If h.0 h.1 items)
+held_items item items (inr (inr (inl h))) = ap held h.2 ∙ ap held_step (outs-Each h.0 h.1 items)
+held_items item items (inr (inr (inr h))) = ap held h.3 ∙ ap held_step (outs-Element h.0 h.1 h.2 items)
+
+pub inside_area : (item : Item) (id name owner : ℕ) (items : List Item) (around : Around) → item ≡ Area id name owner items → inside item around ≡ within name owner around
+inside_area item id name owner items around is = ap (λ x. inside x around) is ∙ ap (λ x. inside_step x around) (outs-Area id name owner items)
+
+-- what is in another item has the place of that
+pub inside_other : (item : Item) (around : Around) → ((id name owner : ℕ) (items : List Item) → item ≡ Area id name owner items → ⊥) → inside item around ≡ around
+inside_other item around no_area = at (out-Item item) (sym (roll-out-Item item))
+  where
+    at : (x : Item-F Item) → item ≡ roll-Item x → inside_step x around ≡ around
+    at (level.Area id name owner items) is = absurd (no_area id name owner items (is ∙ rolls-Area id name owner items))
+    at _ is = refl
+
 pub held_area : (item : Item) (id name owner : ℕ) (items : List Item) (around : Around) → item ≡ Area id name owner items → items_listed (held item) (inside item around) ≡ items_listed items (within name owner around)
 held_area item id name owner items around is =
     ap (λ x. items_listed (held x) (inside x around)) is

@@ -3,7 +3,7 @@ ghost use Rattle.std.specs.Prelude.{◌≡◌, ℕ, suc, ◌+◌, ◌==◌, List
 ghost use Rattle.std.specs.List.{find};
 ghost use Rattle.std.specs.Option.{option_map};
 ghost use Rattle.component_items.specs.Around.{Around, named, nameless, listed_attr, listed_attrs, listed_fields, items_listed, item_listed, owner_of_id, path_of_id};
-ghost use Rattle.component_items.specs.Own.{place, listed_as, own_listed, own_path, owner_among as owner_of_listed, path_among as path_of_listed};
+ghost use Rattle.component_items.specs.Own.{place, inside, listed_as, own_listed, own_path, owner_among as owner_of_listed, path_among as path_of_listed};
 
 use crate::component::{Attr, Component, Item};
 use std::alloc::Global;
@@ -52,15 +52,23 @@ fn owner_within(item: &Item, id: u32, owner: u32) -> Option<u32>
         return Some(owner);
     }
     match item {
-        Item::Area {
-            owner: area,
-            items,
-            ..
-        } => owner_among(items.as_slice(), id, *area),
-        Item::If { items, .. } | Item::Each { items, .. } | Item::Element { items, .. } => {
-            owner_among(items.as_slice(), id, owner)
+        Item::Area { items, .. }
+        | Item::If { items, .. }
+        | Item::Each { items, .. }
+        | Item::Element { items, .. } => {
+            owner_among(items.as_slice(), id, owner_inside(item, owner))
         }
         _ => None,
+    }
+}
+
+/// The innermost area around what the item holds, where `owner` is the one around the item.
+fn owner_inside(item: &Item, owner: u32) -> u32
+    ensures { (areas : List ℕ) → result ≡ (inside item.now (place owner areas)).owner }
+{
+    match item {
+        Item::Area { owner: area, .. } => *area,
+        _ => owner,
     }
 }
 

@@ -1,8 +1,8 @@
-use Rattle.std.proofs.Common.{[], ◌∷◌, ◌++◌, sym, ap, ◌∙◌}
-use Rattle.component_items.specs.Around.{items_listed, within}
+use Rattle.std.proofs.Common.{sym, ap, ◌∙◌}
+use Rattle.component_items.specs.Around.{items_listed}
 use Rattle.component_items.specs.Own.{place, inside, owner_among}
 use Rattle.std.specs.Option.{option_map}
-use Rattle.component_items.proofs.AroundLemmas.{owner_own, found_here, found_behind, found_inside, held_area, held_block, held_none}
+use Rattle.component_items.proofs.AroundLemmas.{owner_own, found_here, found_behind, found_inside, held_items, held_none}
 use Rattle.component_items.proofs.around.+owner.Goals as goal
 
 pub owner_among-returns-in-Some : goal.owner_among-returns-in-Some
@@ -17,17 +17,11 @@ owner_within-returns-then-is_some t c = λ areas. sym (owner_own c.args.item.now
 pub owner_within-returns-in-Area : goal.owner_within-returns-in-Area
 owner_within-returns-in-Area t c = λ areas.
     let around = place c.args.owner areas in
-    c.owner_among.ensures (areas ++ c.in-Area.name ∷ [])
-    ∙ ap (λ items. owner_among c.args.id (items_listed items (within c.in-Area.name c.in-Area.area around))) c.as_slice.ensures
-    ∙ sym (ap (owner_among c.args.id) (held_area c.args.item.now c.in-Area.id c.in-Area.name c.in-Area.area c.in-Area.items around c.in-Area.is))
-    ∙ sym (ap (option_map (λ l. l.owner)) (found_inside c.args.item.now c.args.id around c.own_name.result (sym c.if-is_some.ensures) (c.own_name.ensures around)))
-
-pub owner_within-returns-in-If : goal.owner_within-returns-in-If
-owner_within-returns-in-If t c = λ areas.
-    let around = place c.args.owner areas in
-    c.owner_among-in-If.ensures areas
-    ∙ ap (λ items. owner_among c.args.id (items_listed items around)) c.as_slice-in-If.ensures
-    ∙ sym (ap (owner_among c.args.id) (held_block c.args.item.now c.in-If.items around c.in-If.is))
+    let there = inside c.args.item.now around in
+    c.owner_among.ensures there.areas
+    ∙ ap (λ items. owner_among c.args.id (items_listed items (place c.owner_inside.result there.areas))) c.as_slice.ensures
+    ∙ ap (λ owner. owner_among c.args.id (items_listed c.in-Area.items (place owner there.areas))) (c.owner_inside.ensures areas)
+    ∙ sym (ap (λ items. owner_among c.args.id (items_listed items there)) (held_items c.args.item.now c.in-Area.items c.in-Area.is))
     ∙ sym (ap (option_map (λ l. l.owner)) (found_inside c.args.item.now c.args.id around c.own_name.result (sym c.if-is_some.ensures) (c.own_name.ensures around)))
 
 pub owner_within-returns-in_default : goal.owner_within-returns-in_default
