@@ -56,7 +56,8 @@ fn owner_within(item: &Item, id: u32, owner: u32) -> Option<u32>
         | Item::If { items, .. }
         | Item::Each { items, .. }
         | Item::Element { items, .. } => {
-            owner_among(items.as_slice(), id, owner_inside(item, owner))
+            let area = owner_inside(item, owner);
+            owner_among(items.as_slice(), id, area)
         }
         _ => None,
     }

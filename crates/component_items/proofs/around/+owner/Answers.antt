@@ -19,8 +19,8 @@ owner_within-returns-in-Area t c = λ areas.
     let around = place c.args.owner areas in
     let there = inside c.args.item.now around in
     c.owner_among.ensures there.areas
-    ∙ ap (λ items. owner_among c.args.id (items_listed items (place c.owner_inside.result there.areas))) c.as_slice.ensures
-    ∙ ap (λ owner. owner_among c.args.id (items_listed c.in-Area.items (place owner there.areas))) (c.owner_inside.ensures areas)
+    ∙ ap (λ items. owner_among c.args.id (items_listed items (place c.owner_inside-area.result there.areas))) c.as_slice.ensures
+    ∙ ap (λ owner. owner_among c.args.id (items_listed c.in-Area.items (place owner there.areas))) (c.owner_inside-area.ensures areas)
     ∙ sym (ap (λ items. owner_among c.args.id (items_listed items there)) (held_items c.args.item.now c.in-Area.items c.in-Area.is))
     ∙ sym (ap (option_map (λ l. l.owner)) (found_inside c.args.item.now c.args.id around c.own_name.result (sym c.if-is_some.ensures) (c.own_name.ensures around)))
 
