@@ -6,7 +6,7 @@ use Rattle.component_items.specs.declared.component.Attr.{Attr}
 use Rattle.component_items.specs.declared.component.Item.{Item}
 use Rattle.component_items.specs.declared.component.Item.TheOpen as level
 use Rattle.component_items.specs.declared.component.Item.TheOpen.{Item-F}
-use Rattle.component_items.specs.declared.component.Item.TheVariants.{Signal, Memo, Load, Store, Area, If, Each, Element, Text, Shown, rolls-Signal, rolls-Memo, rolls-Load, rolls-Store, rolls-Area, rolls-If, rolls-Each, rolls-Element, rolls-Text, rolls-Shown}
+use Rattle.component_items.specs.declared.component.Item.TheVariants.{Signal, Memo, Effect, Resource, Cleanup, Load, Store, Area, If, Each, Element, Text, Shown, rolls-Signal, rolls-Memo, rolls-Effect, rolls-Resource, rolls-Cleanup, rolls-Load, rolls-Store, rolls-Area, rolls-If, rolls-Each, rolls-Element, rolls-Text, rolls-Shown}
 use Rattle.component_items.specs.declared.component.Item.TheFolds.{fold-Item, fold-roll-Item}
 
 pub fold-Signal : {A : Type 0} (step : Item-F A → A) (id name : ℕ) (start : Code) → fold-Item A step (Signal id name start) ≡ step (level.Signal id name start)
@@ -14,6 +14,15 @@ fold-Signal {A} step id name start = ap (fold-Item A step) (sym (rolls-Signal id
 
 pub fold-Memo : {A : Type 0} (step : Item-F A → A) (id name : ℕ) (expr : Expr) → fold-Item A step (Memo id name expr) ≡ step (level.Memo id name expr)
 fold-Memo {A} step id name expr = ap (fold-Item A step) (sym (rolls-Memo id name expr)) ∙ fold-roll-Item A step (level.Memo id name expr)
+
+pub fold-Effect : {A : Type 0} (step : Item-F A → A) (id name : ℕ) (expr : Expr) → fold-Item A step (Effect id name expr) ≡ step (level.Effect id name expr)
+fold-Effect {A = A} step id name expr = ap (fold-Item A step) (sym (rolls-Effect id name expr)) ∙ fold-roll-Item A step (level.Effect id name expr)
+
+pub fold-Resource : {A : Type 0} (step : Item-F A → A) (id name after : ℕ) (keys values : List Code) → fold-Item A step (Resource id name after keys values) ≡ step (level.Resource id name after keys values)
+fold-Resource {A = A} step id name after keys values = ap (fold-Item A step) (sym (rolls-Resource id name after keys values)) ∙ fold-roll-Item A step (level.Resource id name after keys values)
+
+pub fold-Cleanup : {A : Type 0} (step : Item-F A → A) (text : ℕ) → fold-Item A step (Cleanup text) ≡ step (level.Cleanup text)
+fold-Cleanup {A = A} step text = ap (fold-Item A step) (sym (rolls-Cleanup text)) ∙ fold-roll-Item A step (level.Cleanup text)
 
 pub fold-Load : {A : Type 0} (step : Item-F A → A) (id name resource : ℕ) (key : Expr) → fold-Item A step (Load id name resource key) ≡ step (level.Load id name resource key)
 fold-Load {A} step id name resource key = ap (fold-Item A step) (sym (rolls-Load id name resource key)) ∙ fold-roll-Item A step (level.Load id name resource key)
@@ -62,3 +71,9 @@ at-Element step tag closed attrs items x = ap (λ f. f x) (fold-Element step tag
 
 pub at-Shown : {X Y : Type 0} (step : Item-F (X → Y) → X → Y) (id : ℕ) (expr : Expr) (x : X) → fold-Item (X → Y) step (Shown id expr) x ≡ step (level.Shown id expr) x
 at-Shown step id expr x = ap (λ f. f x) (fold-Shown step id expr)
+
+pub at-Text : {X Y : Type 0} (step : Item-F (X → Y) → X → Y) (text : ℕ) (x : X) → fold-Item (X → Y) step (Text text) x ≡ step (level.Text text) x
+at-Text step text x = ap (λ f. f x) (fold-Text step text)
+
+pub at-Cleanup : {X Y : Type 0} (step : Item-F (X → Y) → X → Y) (text : ℕ) (x : X) → fold-Item (X → Y) step (Cleanup text) x ≡ step (level.Cleanup text) x
+at-Cleanup step text x = ap (λ f. f x) (fold-Cleanup step text)

@@ -1,6 +1,5 @@
 -- What is made of what was read so far. Where a definition here has a default, no text comes to it.
-use Rattle.std.specs.Prelude.{ℕ, suc, ◌+◌, Bool, true, false, List, [], ◌∷◌, ◌++◌, length, Option, Some, None}
-use Rattle.values.specs.declared.code.Code.{Code}
+use Rattle.std.specs.Prelude.{ℕ, suc, ◌+◌, Bool, true, false, List, [], ◌∷◌, ◌++◌, length}
 use Rattle.values.specs.declared.code.Code.TheVariants.{Empty}
 use Rattle.values.specs.declared.code.Op.{Op}
 use Rattle.values.specs.declared.expr.Expr.{Expr}

@@ -1,9 +1,8 @@
 -- The checks of a token at its place, and their order.
-use Rattle.std.specs.Prelude.{ℕ, ◌+◌, nat_lt, nat_le, ◌==◌, ◌&&◌, ◌||◌, not, Bool, true, false, is_none, is_some, List, [], ◌∷◌, length, find, Option, Some, None, Ok, Err}
+use Rattle.std.specs.Prelude.{ℕ, nat_lt, nat_le, ◌&&◌, ◌||◌, not, Bool, true, false, is_none, is_some, List, [], ◌∷◌, length, find, Option, Some, None, Ok, Err}
 use Rattle.std.specs.List.{list_any}
-use Rattle.std.specs.Option.{option_and_then}
 use Rattle.values.specs.declared.code.Code.{Code}
-use Rattle.values.specs.declared.code.Code.TheVariants.{Empty, Number, Word}
+use Rattle.values.specs.declared.code.Code.TheVariants.{Empty, Word}
 use Rattle.values.specs.Evaluation.{is_same}
 use Rattle.values.specs.Texts.{index_of}
 use Rattle.text_lexer.specs.declared.token.Token.{Token}
@@ -18,7 +17,7 @@ use Rattle.component_items.specs.declared.refusal.Count.TheVariants as count
 use Rattle.component_items.specs.declared.refusal.Place.{Place}
 use Rattle.component_items.specs.Kept.{may_declare, may_have_resource, may_have_cleanup, may_have_memo, may_have_area, may_have_each}
 use Rattle.component_meaning.specs.State.{State, standing_in, rows_in}
-use Rattle.component_meaning.specs.Names.{bytes_of, place_of, value_in, content_in, number_in, negated_in, greatest, greatest_negated, declared_as, is_seen, has_value, is_resource, is_store, is_other, is_key, field_at, part_in, goes_on, is_part, ends_name, is_open_name, is_attribute_name, is_close_name, spelled, is_open_tag, has_attribute, is_raw_tag, is_full}
+use Rattle.component_meaning.specs.Names.{bytes_of, place_of, value_in, content_in, number_in, negated_in, greatest, greatest_negated, declared_as, is_seen, has_value, is_resource, is_store, is_other, is_key, field_at, part_in, is_part, ends_name, is_open_name, is_attribute_name, is_close_name, spelled, is_open_tag, has_attribute, is_raw_tag, is_full}
 
 pub data Check : Type 0 where
   unclosed : Check

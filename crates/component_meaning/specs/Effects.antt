@@ -1,8 +1,7 @@
 -- What a token at its place does to the state.
-use Rattle.std.specs.Prelude.{ℕ, ◌+◌, if◌then◌else◌, ◌||◌, Bool, true, false, codes, unwrap_or, List, [], ◌∷◌, ◌++◌, Option, Some, None}
+use Rattle.std.specs.Prelude.{ℕ, ◌+◌, if◌then◌else◌, ◌||◌, codes, unwrap_or, List, [], ◌∷◌, ◌++◌}
 use Rattle.values.specs.declared.code.Code.{Code}
-use Rattle.values.specs.declared.code.Code.TheVariants.{Empty, Number, Word}
-use Rattle.values.specs.declared.expr.Expr.{Expr}
+use Rattle.values.specs.declared.code.Code.TheVariants.{Empty, Word}
 use Rattle.values.specs.declared.expr.Expr.TheVariants as expr
 use Rattle.values.specs.Texts.{with_text}
 use Rattle.text_lexer.specs.declared.token.Token.{Token}

@@ -1,15 +1,14 @@
 -- Tokens and names: the bytes of a token, what a name stands for, and the name of a tag or attribute.
-use Rattle.std.specs.Prelude.{ℕ, ◌+◌, ◌-◌, ◌==◌, nat_lt, nat_le, ◌&&◌, ◌||◌, not, if◌then◌else◌, Bool, true, false, codes, unwrap_or, is_none, is_some, List, [], ◌∷◌, ◌++◌, length, find, slice_range, Option, Some, None, Ok, Err, ℤ, pos, ◌-ℤ◌}
+use Rattle.std.specs.Prelude.{ℕ, ◌+◌, ◌==◌, nat_lt, ◌&&◌, ◌||◌, not, if◌then◌else◌, Bool, true, false, codes, unwrap_or, is_none, is_some, List, [], ◌++◌, length, find, slice_range, Option, Some, None, Ok, pos, ◌-ℤ◌}
 use Rattle.std.specs.List.{list_any, position}
 use Rattle.std.specs.Option.{option_map, option_and_then}
 use Rattle.std.specs.Str.{bytes_eq}
 use Rattle.values.specs.declared.code.Code.{Code}
-use Rattle.values.specs.declared.code.Code.TheVariants.{Empty, Number, Word}
+use Rattle.values.specs.declared.code.Code.TheVariants.{Number}
 use Rattle.values.specs.Texts.{index_of, with_text}
 use Rattle.text_lexer.specs.declared.token.Token.{Token}
 use Rattle.text_lexer.specs.Token.{decimal_value, content_of}
 use Rattle.text_lexer.specs.Tokens.{Lexed}
-use Rattle.text_grammar.specs.declared.kind.Kind.{Kind}
 use Rattle.text_grammar.specs.declared.kind.Class.TheVariants as class
 use Rattle.text_grammar.specs.declared.component.Terminal.{Terminal}
 use Rattle.text_grammar.specs.declared.component.Terminal.TheVariants as terminal

@@ -1,8 +1,5 @@
-use Rattle.std.proofs.Common.{◌≡◌, ◌≤◌, ℕ, List, [], ◌∷◌, true, false, codes, pos, negsuc, Some, refl, arith}
-use Rattle.values.specs.declared.code.Code.TheVariants.{Empty, Number, Word}
-use Rattle.values.specs.declared.code.Op.TheVariants as op
-use Rattle.values.specs.declared.expr.Expr.TheVariants.{Lit, Read, Binary, If}
-use Rattle.component_items.specs.declared.component.Attr.TheVariants as attr
+use Rattle.std.proofs.Common.{◌≡◌, ◌≤◌, List, [], ◌∷◌, codes, pos, negsuc, Some, refl, arith}
+use Rattle.values.specs.declared.code.Code.TheVariants.{Number}
 use Rattle.component_items.specs.declared.component.Component.{Component}
 use Rattle.component_items.specs.declared.component.Item.{Item}
 use Rattle.component_items.specs.declared.component.Item.TheVariants as item
@@ -21,9 +18,12 @@ least_number_component = record { texts = [] ∷ codes "a" ∷ []; items = least
 least_number_read : read_of (codes "component 1\nsignal a = -2147483648") ≡ Some least_number_component
 least_number_read = refl
 
-least_number_nodes : nodes_of least_number_items ≤ 4096
+least_number_count : nodes_of least_number_items ≡ 1
 unfolding item_maximum item_nodes
-least_number_nodes = simp (fold-Signal)
+least_number_count = simp fold-Signal
+
+least_number_nodes : nodes_of least_number_items ≤ 4096
+least_number_nodes = let count = least_number_count in omega arith
 
 pub returns-clause-least_number : goal.returns-clause-least_number
 returns-clause-least_number c = computed_component (codes "component 1\nsignal a = -2147483648") least_number_component least_number_read least_number_nodes
@@ -37,9 +37,12 @@ greatest_number_component = record { texts = [] ∷ codes "a" ∷ []; items = gr
 greatest_number_read : read_of (codes "component 1\nsignal a = 2147483647") ≡ Some greatest_number_component
 greatest_number_read = refl
 
-greatest_number_nodes : nodes_of greatest_number_items ≤ 4096
+greatest_number_count : nodes_of greatest_number_items ≡ 1
 unfolding item_maximum item_nodes
-greatest_number_nodes = simp (fold-Signal)
+greatest_number_count = simp fold-Signal
+
+greatest_number_nodes : nodes_of greatest_number_items ≤ 4096
+greatest_number_nodes = let count = greatest_number_count in omega arith
 
 pub returns-clause-greatest_number : goal.returns-clause-greatest_number
 returns-clause-greatest_number c = computed_component (codes "component 1\nsignal a = 2147483647") greatest_number_component greatest_number_read greatest_number_nodes
@@ -53,9 +56,12 @@ nodes_component = record { texts = [] ∷ codes "s" ∷ codes "t" ∷ []; items 
 nodes_read : read_of (codes "component 1\nstore s max 4096 { t = 0 }") ≡ Some nodes_component
 nodes_read = refl
 
-nodes_nodes : nodes_of nodes_items ≤ 4096
+nodes_count : nodes_of nodes_items ≡ 4096
 unfolding item_maximum item_nodes
-nodes_nodes = simp (fold-Store)
+nodes_count = simp fold-Store
+
+nodes_nodes : nodes_of nodes_items ≤ 4096
+nodes_nodes = let count = nodes_count in omega arith
 
 pub returns-clause-nodes : goal.returns-clause-nodes
 returns-clause-nodes c = computed_component (codes "component 1\nstore s max 4096 { t = 0 }") nodes_component nodes_read nodes_nodes

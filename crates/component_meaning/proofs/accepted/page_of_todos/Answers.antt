@@ -1,13 +1,13 @@
-use Rattle.std.proofs.Common.{◌≡◌, ◌≤◌, ℕ, List, [], ◌∷◌, true, false, codes, pos, negsuc, Some, refl, arith}
-use Rattle.values.specs.declared.code.Code.TheVariants.{Empty, Number, Word}
+use Rattle.std.proofs.Common.{◌≡◌, ◌≤◌, List, [], ◌∷◌, true, codes, pos, Some, refl, arith}
+use Rattle.values.specs.declared.code.Code.TheVariants.{Number, Word}
 use Rattle.values.specs.declared.code.Op.TheVariants as op
-use Rattle.values.specs.declared.expr.Expr.TheVariants.{Lit, Read, Binary, If}
+use Rattle.values.specs.declared.expr.Expr.TheVariants.{Lit, Read, Binary}
 use Rattle.component_items.specs.declared.component.Attr.TheVariants as attr
 use Rattle.component_items.specs.declared.component.Component.{Component}
 use Rattle.component_items.specs.declared.component.Item.{Item}
 use Rattle.component_items.specs.declared.component.Item.TheVariants as item
-use Rattle.component_items.specs.Counts.{item_maximum, item_nodes, nodes_of}
-use Rattle.component_items.proofs.FoldLemmas.{fold-Area, fold-Cleanup, fold-Each, fold-Element, fold-If, fold-Memo, fold-Shown, fold-Signal, fold-Store, fold-Text}
+use Rattle.component_items.specs.Counts.{item_maximum, item_nodes, maximum_in, nodes_of}
+use Rattle.component_items.proofs.FoldLemmas.{at-Area, at-Cleanup, at-Each, at-Element, at-If, at-Memo, at-Shown, at-Signal, at-Store, at-Text, fold-Area, fold-Cleanup, fold-Each, fold-Element, fold-If, fold-Memo, fold-Shown, fold-Signal, fold-Store, fold-Text}
 use Rattle.component_meaning.specs.Computed.{read_of}
 use Rattle.component_meaning.proofs.Decided.{computed_component}
 use Rattle.component_meaning.proofs.accepted.page_of_todos.Goals as goal
@@ -21,9 +21,16 @@ page_component = record { texts = [] ∷ codes "user" ∷ codes "Ann" ∷ codes 
 page_read : read_of (codes "component 1\nsignal user = \"Ann\"\nsignal done = 1\nstore todos max 50 { title = \"\" ok = 0 }\nmemo left = 3 - done\n<main class=\"app\">\n <h1>\"Todos of \" {user}</h1>\n if left { <p>{left} \" left\"</p> }\n <ul>each todos { <li data-id={row.key}>{row.title} if row.ok { \" (done)\" }</li> }</ul>\n area help { signal text = \"Press & type\" <footer>{text}</footer> cleanup \"help closed\" }\n</main>\n") ≡ Some page_component
 page_read = refl
 
-page_nodes : nodes_of page_items ≤ 4096
+page_most : maximum_in page_items 2 ≡ 50
+unfolding item_maximum
+page_most = simp (at-Signal, at-Store, at-Memo, at-Element, at-Text, at-Shown, at-If, at-Each, at-Area, at-Cleanup)
+
+page_count : nodes_of page_items ≡ 258
 unfolding item_maximum item_nodes
-page_nodes = simp (fold-Signal, fold-Store, fold-Memo, fold-Element, fold-Text, fold-Shown, fold-If, fold-Each, fold-Area, fold-Cleanup)
+page_count = simp (fold-Signal, fold-Store, fold-Memo, fold-Element, fold-Text, fold-Shown, fold-If, fold-Each, fold-Area, fold-Cleanup, page_most)
+
+page_nodes : nodes_of page_items ≤ 4096
+page_nodes = let count = page_count in omega arith
 
 pub returns : goal.returns
 returns c = computed_component (codes "component 1\nsignal user = \"Ann\"\nsignal done = 1\nstore todos max 50 { title = \"\" ok = 0 }\nmemo left = 3 - done\n<main class=\"app\">\n <h1>\"Todos of \" {user}</h1>\n if left { <p>{left} \" left\"</p> }\n <ul>each todos { <li data-id={row.key}>{row.title} if row.ok { \" (done)\" }</li> }</ul>\n area help { signal text = \"Press & type\" <footer>{text}</footer> cleanup \"help closed\" }\n</main>\n") page_component page_read page_nodes

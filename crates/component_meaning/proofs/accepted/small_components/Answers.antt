@@ -1,4 +1,4 @@
-use Rattle.std.proofs.Common.{◌≡◌, ◌≤◌, ℕ, List, [], ◌∷◌, true, false, codes, pos, negsuc, Some, refl, arith}
+use Rattle.std.proofs.Common.{◌≡◌, ◌≤◌, List, [], ◌∷◌, true, false, codes, pos, negsuc, Some, refl, arith}
 use Rattle.values.specs.declared.code.Code.TheVariants.{Empty, Number, Word}
 use Rattle.values.specs.declared.code.Op.TheVariants as op
 use Rattle.values.specs.declared.expr.Expr.TheVariants.{Lit, Read, Binary, If}
@@ -6,8 +6,8 @@ use Rattle.component_items.specs.declared.component.Attr.TheVariants as attr
 use Rattle.component_items.specs.declared.component.Component.{Component}
 use Rattle.component_items.specs.declared.component.Item.{Item}
 use Rattle.component_items.specs.declared.component.Item.TheVariants as item
-use Rattle.component_items.specs.Counts.{item_maximum, item_nodes, nodes_of}
-use Rattle.component_items.proofs.FoldLemmas.{fold-Area, fold-Cleanup, fold-Each, fold-Effect, fold-Element, fold-If, fold-Load, fold-Memo, fold-Resource, fold-Shown, fold-Signal, fold-Store}
+use Rattle.component_items.specs.Counts.{item_maximum, item_nodes, maximum_in, nodes_of}
+use Rattle.component_items.proofs.FoldLemmas.{at-Each, at-If, at-Memo, at-Shown, at-Store, fold-Area, fold-Cleanup, fold-Each, fold-Effect, fold-Element, fold-If, fold-Load, fold-Memo, fold-Resource, fold-Shown, fold-Signal, fold-Store}
 use Rattle.component_meaning.specs.Computed.{read_of}
 use Rattle.component_meaning.proofs.Decided.{computed_component}
 use Rattle.component_meaning.proofs.accepted.small_components.Goals as goal
@@ -21,9 +21,12 @@ head_component = record { texts = [] ∷ []; items = head_items }
 head_read : read_of (codes "component 1") ≡ Some head_component
 head_read = refl
 
-head_nodes : nodes_of head_items ≤ 4096
+head_count : nodes_of head_items ≡ 0
 unfolding item_maximum item_nodes
-head_nodes = simp ()
+head_count = refl
+
+head_nodes : nodes_of head_items ≤ 4096
+head_nodes = let count = head_count in omega arith
 
 pub returns-clause-head : goal.returns-clause-head
 returns-clause-head c = computed_component (codes "component 1") head_component head_read head_nodes
@@ -37,9 +40,12 @@ memo_component = record { texts = [] ∷ codes "a" ∷ codes "b" ∷ codes "p" �
 memo_read : read_of (codes "component 1\nsignal a = 2\nmemo b = a * 3\n<p>{b}</p>") ≡ Some memo_component
 memo_read = refl
 
-memo_nodes : nodes_of memo_items ≤ 4096
+memo_count : nodes_of memo_items ≡ 3
 unfolding item_maximum item_nodes
-memo_nodes = simp (fold-Signal, fold-Memo, fold-Element, fold-Shown)
+memo_count = simp (fold-Signal, fold-Memo, fold-Element, fold-Shown)
+
+memo_nodes : nodes_of memo_items ≤ 4096
+memo_nodes = let count = memo_count in omega arith
 
 pub returns-clause-memo : goal.returns-clause-memo
 returns-clause-memo c = computed_component (codes "component 1\nsignal a = 2\nmemo b = a * 3\n<p>{b}</p>") memo_component memo_read memo_nodes
@@ -53,9 +59,12 @@ groups_component = record { texts = [] ∷ []; items = groups_items }
 groups_read : read_of (codes "component 1 {if 1 lt 2 - 3 - 4 then empty else (5 == \"\")}") ≡ Some groups_component
 groups_read = refl
 
-groups_nodes : nodes_of groups_items ≤ 4096
+groups_count : nodes_of groups_items ≡ 1
 unfolding item_maximum item_nodes
-groups_nodes = simp (fold-Shown)
+groups_count = simp fold-Shown
+
+groups_nodes : nodes_of groups_items ≤ 4096
+groups_nodes = let count = groups_count in omega arith
 
 pub returns-clause-groups : goal.returns-clause-groups
 returns-clause-groups c = computed_component (codes "component 1 {if 1 lt 2 - 3 - 4 then empty else (5 == \"\")}") groups_component groups_read groups_nodes
@@ -69,9 +78,12 @@ products_component = record { texts = [] ∷ []; items = products_items }
 products_read : read_of (codes "component 1 {1 + 2 * 3 / 4 % -5}") ≡ Some products_component
 products_read = refl
 
-products_nodes : nodes_of products_items ≤ 4096
+products_count : nodes_of products_items ≡ 1
 unfolding item_maximum item_nodes
-products_nodes = simp (fold-Shown)
+products_count = simp fold-Shown
+
+products_nodes : nodes_of products_items ≤ 4096
+products_nodes = let count = products_count in omega arith
 
 pub returns-clause-products : goal.returns-clause-products
 returns-clause-products c = computed_component (codes "component 1 {1 + 2 * 3 / 4 % -5}") products_component products_read products_nodes
@@ -85,9 +97,12 @@ attributes_component = record { texts = [] ∷ codes "a-1" ∷ codes "max" ∷ c
 attributes_read : read_of (codes "component 1 <a-1 max disabled=\"\" title={\"x\"}></a-1><br/><area>") ≡ Some attributes_component
 attributes_read = refl
 
-attributes_nodes : nodes_of attributes_items ≤ 4096
+attributes_count : nodes_of attributes_items ≡ 1
 unfolding item_maximum item_nodes
-attributes_nodes = simp (fold-Element)
+attributes_count = simp fold-Element
+
+attributes_nodes : nodes_of attributes_items ≤ 4096
+attributes_nodes = let count = attributes_count in omega arith
 
 pub returns-clause-attributes : goal.returns-clause-attributes
 returns-clause-attributes c = computed_component (codes "component 1 <a-1 max disabled=\"\" title={\"x\"}></a-1><br/><area>") attributes_component attributes_read attributes_nodes
@@ -101,9 +116,12 @@ load_component = record { texts = [] ∷ codes "r" ∷ codes "A" ∷ codes "1" �
 load_read : read_of (codes "component 1 resource r after 2 { 1 => \"A\" \"1\" => -7 } load l = r(0) effect e = l") ≡ Some load_component
 load_read = refl
 
-load_nodes : nodes_of load_items ≤ 4096
+load_count : nodes_of load_items ≡ 3
 unfolding item_maximum item_nodes
-load_nodes = simp (fold-Resource, fold-Load, fold-Effect)
+load_count = simp (fold-Resource, fold-Load, fold-Effect)
+
+load_nodes : nodes_of load_items ≤ 4096
+load_nodes = let count = load_count in omega arith
 
 pub returns-clause-load : goal.returns-clause-load
 returns-clause-load c = computed_component (codes "component 1 resource r after 2 { 1 => \"A\" \"1\" => -7 } load l = r(0) effect e = l") load_component load_read load_nodes
@@ -117,9 +135,16 @@ rows_component = record { texts = [] ∷ codes "s" ∷ codes "t" ∷ codes "u" �
 rows_read : read_of (codes "component 1 store s max 2 { t = 0 u = empty } each s { if row.u { {row.key} } memo m = row.t }") ≡ Some rows_component
 rows_read = refl
 
-rows_nodes : nodes_of rows_items ≤ 4096
+rows_most : maximum_in rows_items 0 ≡ 2
+unfolding item_maximum
+rows_most = simp (at-Store, at-Each, at-If, at-Shown, at-Memo)
+
+rows_count : nodes_of rows_items ≡ 10
 unfolding item_maximum item_nodes
-rows_nodes = simp (fold-Store, fold-Each, fold-If, fold-Shown, fold-Memo)
+rows_count = simp (fold-Store, fold-Each, fold-If, fold-Shown, fold-Memo, rows_most)
+
+rows_nodes : nodes_of rows_items ≤ 4096
+rows_nodes = let count = rows_count in omega arith
 
 pub returns-clause-rows : goal.returns-clause-rows
 returns-clause-rows c = computed_component (codes "component 1 store s max 2 { t = 0 u = empty } each s { if row.u { {row.key} } memo m = row.t }") rows_component rows_read rows_nodes
@@ -133,9 +158,12 @@ areas_component = record { texts = [] ∷ codes "a" ∷ codes "bye" ∷ codes "b
 areas_read : read_of (codes "component 1 area a { cleanup \"bye\" area b { signal x = 1 } } <p>area c {}</p> area d { signal x = 2 {x} }") ≡ Some areas_component
 areas_read = refl
 
-areas_nodes : nodes_of areas_items ≤ 4096
+areas_count : nodes_of areas_items ≡ 3
 unfolding item_maximum item_nodes
-areas_nodes = simp (fold-Area, fold-Cleanup, fold-Signal, fold-Element, fold-Shown)
+areas_count = simp (fold-Area, fold-Cleanup, fold-Signal, fold-Element, fold-Shown)
+
+areas_nodes : nodes_of areas_items ≤ 4096
+areas_nodes = let count = areas_count in omega arith
 
 pub returns-clause-areas : goal.returns-clause-areas
 returns-clause-areas c = computed_component (codes "component 1 area a { cleanup \"bye\" area b { signal x = 1 } } <p>area c {}</p> area d { signal x = 2 {x} }") areas_component areas_read areas_nodes

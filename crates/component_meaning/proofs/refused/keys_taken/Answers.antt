@@ -1,5 +1,4 @@
 use Rattle.std.proofs.Common.{◌≡◌, Some, codes, refl}
-use Rattle.component_items.specs.declared.refusal.Count.TheVariants as Count
 use Rattle.component_items.specs.declared.refusal.Refusal.TheVariants.{Bad}
 use Rattle.component_items.specs.declared.refusal.Why.TheVariants as Why
 use Rattle.component_meaning.specs.Computed.{refusal_of}
