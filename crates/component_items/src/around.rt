@@ -32,6 +32,7 @@ impl Component {
     }
 }
 
+/// The owner of the id, where one of the items takes it. `owner` is the innermost area around them.
 #[cycle(owner)]
 fn owner_among(items: &[Item], id: u32, owner: u32) -> Option<u32>
     ensures { (areas : List ℕ) → result ≡ owner_of_listed id (items_listed items.now (place owner areas)) }
@@ -178,6 +179,7 @@ fn own_field(own: u32, fields: &[u32], id: u32) -> Option<Own>
     Some(Own::Named(*name))
 }
 
+/// Whether the value of one of the attributes takes the id.
 fn attrs_take(attrs: &[Attr], id: u32) -> bool
     ensures { (around : Around) → find (λ l. l.id == id) (listed_attrs around attrs.now) ≡ (if result then Some (nameless id around) else None) }
 {
