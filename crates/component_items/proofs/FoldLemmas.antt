@@ -77,3 +77,6 @@ at-Text step text x = ap (λ f. f x) (fold-Text step text)
 
 pub at-Cleanup : {X Y : Type 0} (step : Item-F (X → Y) → X → Y) (text : ℕ) (x : X) → fold-Item (X → Y) step (Cleanup text) x ≡ step (level.Cleanup text) x
 at-Cleanup step text x = ap (λ f. f x) (fold-Cleanup step text)
+
+pub at-Effect : {X Y : Type 0} (step : Item-F (X → Y) → X → Y) (id name : ℕ) (expr : Expr) (x : X) → fold-Item (X → Y) step (Effect id name expr) x ≡ step (level.Effect id name expr) x
+at-Effect step id name expr x = ap (λ f. f x) (fold-Effect step id name expr)

@@ -1,0 +1,9 @@
+pub mod Names
+pub mod State
+pub mod Checks
+pub mod Effects
+pub mod Meaning
+pub mod Script
+pub mod Input
+pub mod Computed
+pub mod Worked

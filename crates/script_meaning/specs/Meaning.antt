@@ -1,0 +1,37 @@
+-- What the tokens of a script text mean.
+use Rattle.std.specs.Prelude.{ℕ, List, Option, Some, None, Result, Ok, Err}
+use Rattle.grammar.specs.Ahead.{WithNext}
+use Rattle.grammar.specs.Semantics.{Semantics}
+use Rattle.text_lexer.specs.declared.token.BadToken.{BadToken}
+use Rattle.text_lexer.specs.declared.token.Token.{Token}
+use Rattle.text_lexer.specs.Tokens.{Lexed}
+use Rattle.text_grammar.specs.declared.kind.Seen.{Seen}
+use Rattle.text_grammar.specs.declared.script.Action.{Action}
+use Rattle.text_grammar.specs.declared.script.Terminal.{Terminal}
+use Rattle.text_grammar.specs.Kind.{kind_of}
+use Rattle.component_items.specs.declared.refusal.Refusal.{Refusal}
+use Rattle.component_items.specs.declared.refusal.Refusal.TheVariants.{Bad}
+use Rattle.component_meaning.specs.Meaning.{unexpected}
+use Rattle.component_meaning.specs.Names.{place_of}
+use Rattle.script_meaning.specs.Names.{Names}
+use Rattle.script_meaning.specs.State.{State}
+use Rattle.script_meaning.specs.Checks.{Check, why_of, failed}
+use Rattle.script_meaning.specs.Effects.{effect, perform}
+
+abbrev pub judged : List ℕ → Terminal → State → Token → Option Check → Result State Refusal
+judged text t a x None = Ok (effect text t a x)
+judged text t a x (Some check) = Err (Bad (why_of check) (place_of x))
+
+-- the state after the token, or the first check that it fails
+abbrev pub accept_token : List ℕ → Terminal → State → Lexed → Lexed → Result State Refusal
+accept_token text t a (Ok x) next = judged text t a x (failed text t a x next)
+accept_token text t a (Err bad) next = Err (unexpected (Err bad))
+
+-- for a component with these names at its top
+abbrev pub semantics : Names → List ℕ → Semantics Terminal Action Seen (WithNext Lexed) State Refusal
+semantics top text = record {
+  kind = λ x. kind_of text x.token;
+  accept = λ t a x. accept_token text t a x.token x.next;
+  perform = perform top;
+  unexpected = λ x. unexpected x.token;
+}
