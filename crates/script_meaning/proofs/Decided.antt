@@ -1,5 +1,5 @@
 -- The laws of parts of the input, of script texts.
-use Rattle.std.proofs.Common.{◌≡◌, ℕ, List, [], ◌∷◌, Option, Some, refl, sym, ◌∙◌, ap, subst}
+use Rattle.std.proofs.Common.{◌≡◌, ℕ, List, [], ◌∷◌, Some, refl, sym, ◌∙◌, ap, subst}
 use Rattle.grammar.specs.declared.symbol.Symbol.TheVariants as s
 use Rattle.grammar.specs.Running.{Outcome, read, refused, undecided}
 use Rattle.text_grammar.specs.declared.script.Rule.TheVariants as rule

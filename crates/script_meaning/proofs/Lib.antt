@@ -1,2 +1,2 @@
 pub mod Decided
-pub mod Worked
+pub mod WorkedNames

@@ -1,7 +1,7 @@
 -- What a token of a script at its place does to the state, and what an action makes of it.
-use Rattle.std.specs.Prelude.{ℕ, ◌+◌, unwrap_or, slice_set, List, [], ◌∷◌, ◌++◌, Option, Some, None}
+use Rattle.std.specs.Prelude.{ℕ, ◌+◌, unwrap_or, slice_set, List, [], ◌∷◌, Option, Some, None}
 use Rattle.values.specs.declared.code.Code.{Code}
-use Rattle.values.specs.declared.code.Code.TheVariants.{Empty, Number, Word}
+use Rattle.values.specs.declared.code.Code.TheVariants.{Empty, Word}
 use Rattle.values.specs.Texts.{with_text}
 use Rattle.text_lexer.specs.declared.token.Token.{Token}
 use Rattle.text_grammar.specs.declared.script.Action.{Action}
@@ -14,7 +14,7 @@ use Rattle.script_items.specs.declared.operation.ScriptOp.{ScriptOp}
 use Rattle.script_items.specs.declared.operation.ScriptOp.TheVariants as op
 use Rattle.script_items.specs.Script.{with_phase, with_lane, with_op}
 use Rattle.component_meaning.specs.Names.{value_in, content_in, number_in, negated_in, number_with}
-use Rattle.script_meaning.specs.Names.{Named, nothing, a_signal, a_memo, a_load, a_store, an_area, Names, none, Found}
+use Rattle.script_meaning.specs.Names.{Named, nothing, a_signal, a_memo, a_load, a_store, an_area, Names, Found}
 use Rattle.script_meaning.specs.State.{State, end_of_rows}
 use Rattle.script_meaning.specs.Checks.{found_as, field_of}
 

@@ -1,5 +1,5 @@
 -- Whole inputs: a component text, and behind a line `---` the text of a script for that component.
-use Rattle.std.specs.Prelude.{◌≡◌, ◌⊎◌, ℕ, List, take, drop}
+use Rattle.std.specs.Prelude.{◌⊎◌, ℕ, List, take, drop}
 use Rattle.input_split.specs.declared.Split.{Split}
 use Rattle.input_split.specs.Parts.{SplitsAt, IsUndivided}
 use Rattle.component_items.specs.declared.component.Component.{Component}

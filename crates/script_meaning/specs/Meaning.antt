@@ -2,7 +2,6 @@
 use Rattle.std.specs.Prelude.{ℕ, List, Option, Some, None, Result, Ok, Err}
 use Rattle.grammar.specs.Ahead.{WithNext}
 use Rattle.grammar.specs.Semantics.{Semantics}
-use Rattle.text_lexer.specs.declared.token.BadToken.{BadToken}
 use Rattle.text_lexer.specs.declared.token.Token.{Token}
 use Rattle.text_lexer.specs.Tokens.{Lexed}
 use Rattle.text_grammar.specs.declared.kind.Seen.{Seen}

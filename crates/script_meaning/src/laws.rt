@@ -2,11 +2,22 @@
 
 ghost use Rattle.std.specs.Prelude.{◌≡◌, ℕ, List};
 ghost use Rattle.component_items.specs.declared.component.Component.{Component};
+ghost use Rattle.component_items.specs.declared.refusal.Refusal.{Refusal};
 ghost use Rattle.script_items.specs.declared.operation.ScriptOp.{ScriptOp};
-ghost use Rattle.script_meaning.specs.Script.{IsScript};
-ghost use Rattle.script_meaning.specs.Input.{IsInput};
+ghost use Rattle.script_meaning.specs.Script.{IsScript, IsNoScript};
 
-/// Bytes are the text of at most one script for a component.
+/// Bytes are the text of at most one script for a component, and the texts are then known.
 pub fn one_script()
-    ensures { (component : Component) (first_line : ℕ) (bytes : List ℕ) (a b : List (List (List ScriptOp))) (texts others : List (List ℕ)) → IsScript component first_line bytes a texts → IsScript component first_line bytes b others → a ≡ b }
+    ensures script { (component : Component) (first_line : ℕ) (bytes : List ℕ) (a b : List (List (List ScriptOp))) (texts others : List (List ℕ)) → IsScript component first_line bytes a texts → IsScript component first_line bytes b others → a ≡ b }
+    ensures texts { (component : Component) (first_line : ℕ) (bytes : List ℕ) (a b : List (List (List ScriptOp))) (texts others : List (List ℕ)) → IsScript component first_line bytes a texts → IsScript component first_line bytes b others → texts ≡ others }
+{}
+
+/// The text of a script is not refused.
+pub fn never_both()
+    ensures { (component : Component) (first_line : ℕ) (bytes : List ℕ) (script : List (List (List ScriptOp))) (texts : List (List ℕ)) (why : Refusal) → IsScript component first_line bytes script texts → IsNoScript component first_line bytes why → ⊥ }
+{}
+
+/// A text is refused for one reason at one place.
+pub fn one_refusal()
+    ensures { (component : Component) (first_line : ℕ) (bytes : List ℕ) (a b : Refusal) → IsNoScript component first_line bytes a → IsNoScript component first_line bytes b → a ≡ b }
 {}
