@@ -1,16 +1,21 @@
 -- The ends of the texts stand last.
-use Rattle.std.proofs.Common.{◌≡◌, Bool, true, false, List, [], ◌∷◌, ◌++◌, refl}
+use Rattle.std.proofs.Common.{◌≡◌, ℕ, Bool, true, false, List, [], ◌∷◌, Ok, Err, slice_range, refl, subst}
+use Rattle.std.proofs.lemmas.Bool.{false≢true}
 use Rattle.std.specs.List.{list_all}
 use Rattle.grammar.specs.declared.symbol.Symbol.TheVariants as s
 use Rattle.grammar.specs.Descent.{LeadsDown, rule_goes_down, leads_down}
 use Rattle.grammar.specs.Ends.{IsLast, stops, rule_stops}
 use Rattle.grammar.proofs.Tests.{all_at}
+use Rattle.text_lexer.specs.declared.token.TokenKind.{TokenKind}
+use Rattle.text_lexer.specs.declared.token.TokenKind.TheVariants as token
+use Rattle.text_lexer.specs.Lexing.{is_end}
+use Rattle.text_lexer.specs.Tokens.{Lexed, is_last}
 use Rattle.text_grammar.specs.declared.kind.Seen.{Seen}
 use Rattle.text_grammar.specs.declared.component.Rule.TheVariants as rule
 use Rattle.text_grammar.specs.declared.component.Terminal.TheVariants as terminal
 use Rattle.text_grammar.specs.declared.script.Rule.TheVariants as script_rule
 use Rattle.text_grammar.specs.declared.script.Terminal.TheVariants as script_terminal
-use Rattle.text_grammar.specs.Kind.{end_seen, bad_seen}
+use Rattle.text_grammar.specs.Kind.{kind_of, kind_of_token, end_seen, bad_seen}
 use Rattle.text_grammar.specs.Closed.{is_closer}
 use Rattle.text_grammar.specs.Component as component
 use Rattle.text_grammar.specs.ComponentAhead as component_ahead
@@ -68,3 +73,23 @@ script_end false = script_last (end_seen false) refl refl
 
 pub script_bad : IsLast script.table (λ w. false) script_terminal.End bad_seen script.text
 script_bad = script_last bad_seen refl refl
+
+-- ---- the last token of a token list
+
+seen_end : (k : TokenKind) (bytes : List ℕ) (touches : Bool) → is_end k ≡ true → end_seen touches ≡ record { kind = kind_of_token k bytes; touches = touches }
+seen_end token.Name bytes touches is = absurd (false≢true is)
+seen_end (token.Reserved w) bytes touches is = absurd (false≢true is)
+seen_end token.Number bytes touches is = absurd (false≢true is)
+seen_end token.Text bytes touches is = absurd (false≢true is)
+seen_end (token.Mark m) bytes touches is = absurd (false≢true is)
+seen_end token.End bytes touches is = refl
+
+pub component_last_token : (bytes : List ℕ) (x : Lexed) → is_last x ≡ true → IsLast component.table is_closer terminal.End (kind_of bytes x) component.text
+component_last_token bytes (Ok x) is =
+    subst (λ k. IsLast component.table is_closer terminal.End k component.text) (seen_end x.kind (slice_range bytes x.start x.end) x.touches is) (component_end x.touches)
+component_last_token bytes (Err bad) is = component_bad
+
+pub script_last_token : (bytes : List ℕ) (x : Lexed) → is_last x ≡ true → IsLast script.table (λ w. false) script_terminal.End (kind_of bytes x) script.text
+script_last_token bytes (Ok x) is =
+    subst (λ k. IsLast script.table (λ w. false) script_terminal.End k script.text) (seen_end x.kind (slice_range bytes x.start x.end) x.touches is) (script_end x.touches)
+script_last_token bytes (Err bad) is = script_bad
