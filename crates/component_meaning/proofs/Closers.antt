@@ -1,10 +1,9 @@
 -- No token passes as a closer.
-use Rattle.std.proofs.Common.{◌≡◌, ℕ, true, List, Ok, Err, refl, sym, ap, subst}
-use Rattle.grammar.specs.Ahead.{WithNext, with_next}
+use Rattle.std.proofs.Common.{◌≡◌, ℕ, List, Ok, Err, refl}
+use Rattle.grammar.specs.Ahead.{with_next}
 use Rattle.grammar.specs.Ends.{Blocks}
 use Rattle.grammar.specs.Meaning.{Means}
 use Rattle.text_lexer.specs.Tokens.{Lexed}
-use Rattle.text_grammar.specs.declared.component.Terminal.{Terminal}
 use Rattle.text_grammar.specs.declared.component.Terminal.TheVariants as terminal
 use Rattle.text_grammar.specs.Closed.{closed_table, is_closer, RefusesClosers}
 use Rattle.text_grammar.proofs.Closed.{reads_closed}

@@ -8,7 +8,8 @@ mod refused;
 
 pub use accepted::{limits_reached, page_of_todos, small_components};
 pub use laws::{
-    bad_utf8, closers_never_pass, never_both, one_component, one_of_both, one_refusal, outcome_is_meaning,
+    bad_utf8, closers_never_pass, never_both, one_component, one_of_both, one_refusal,
+    outcome_is_meaning,
 };
 pub use refused::{
     forbidden_tags, great_numbers, keys_taken, limits, names_not_seen, names_taken,

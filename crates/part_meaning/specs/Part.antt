@@ -36,8 +36,9 @@ pub record IsDecided {W R D S : Type 0} (l : Language W R D S) : Type 0 where
   pub end : W
   pub closes : ClosesWith end l.text
 
--- The last token of a token list ends each text of the language: it is the end of the bytes, or a bad token, and no
--- terminal takes it but the one that closes a text. And before a token is taken, each rule leads to lower ones alone.
+-- Each reading ends with the last token of the bytes, which is their end or a bad token: before a token is taken, each
+-- rule leads to lower ones alone; and no terminal takes that last token but the one that closes a text. A terminal that
+-- is blocked takes no token at all.
 pub record EndsEach {W R D S : Type 0} (l : Language W R D S) : Type 0 where
   pub level : R → ℕ
   pub down : LeadsDown l.table l.lookahead level
