@@ -1,1 +1,3 @@
+pub mod Closers
 pub mod Decided
+pub mod Either

@@ -1,11 +1,20 @@
 //! What follows from the definitions alone.
 
-ghost use Rattle.std.specs.Prelude.{◌≡◌, ℕ, ◌≤◌, ◌<◌, List, Some};
+ghost use Rattle.std.specs.Prelude.{◌≡◌, ◌⊎◌, ◌++◌, ◌∷◌, [], ℕ, ◌≤◌, ◌<◌, List, Some, codes};
+ghost use Rattle.grammar.specs.Ahead.{with_next};
+ghost use Rattle.grammar.specs.Meaning.{Means};
+ghost use Rattle.text_grammar.specs.Closed.{closed_table, RefusesClosers};
+ghost use Rattle.part_meaning.specs.Part.{IsReadTo};
 ghost use Rattle.component_items.specs.declared.component.Component.{Component as ComponentValue};
 ghost use Rattle.component_items.specs.declared.refusal.Refusal.{Refusal};
 ghost use Rattle.component_items.specs.Counts.{nodes_of};
-ghost use Rattle.component_meaning.specs.Component.{IsComponent, IsNoComponent, too_many_nodes};
+ghost use Rattle.component_meaning.specs.Component.{component_text, IsComponent, IsNoComponent, too_many_nodes};
 ghost use Rattle.component_meaning.specs.Computed.{read_of, refusal_of};
+ghost use Rattle.component_meaning.specs.Meaning.{semantics};
+ghost use Rattle.component_meaning.specs.State.{State};
+ghost use Rattle.component_meaning.specs.Worked.{RefusedAt};
+
+use component_items::Why;
 
 /// Bytes are the text of at most one component.
 pub fn one_component()
@@ -20,6 +29,22 @@ pub fn never_both()
 /// A text is refused for one reason at one place.
 pub fn one_refusal()
     ensures { (bytes : List ℕ) (a b : Refusal) → IsNoComponent bytes a → IsNoComponent bytes b → a ≡ b }
+{}
+
+/// Bytes are the text of a component, or are refused.
+pub fn one_of_both()
+    ensures { (bytes : List ℕ) → ((component : ComponentValue) × IsComponent bytes component) ⊎ ((why : Refusal) × IsNoComponent bytes why) }
+{}
+
+/// No token passes as a closer. So the production of the closer adds no text: what is read is read without it.
+pub fn closers_never_pass()
+    ensures refused { (bytes : List ℕ) → RefusesClosers (semantics bytes) }
+    ensures closed { (bytes : List ℕ) (last : State) (read : IsReadTo component_text bytes last) → Means closed_table (semantics bytes) component_text.text component_text.start (with_next read.tokens) last }
+{}
+
+/// A worked row: bytes that are no UTF-8 are refused at the first one that begins no valid sequence.
+pub fn bad_utf8()
+    ensures { RefusedAt (codes "component 1\n\"" ++ 255 ∷ []) Why.BadUtf8 2 2 }
 {}
 
 /// What is computed is what the relations say.

@@ -7,7 +7,10 @@ mod laws;
 mod refused;
 
 pub use accepted::{limits_reached, page_of_todos, small_components};
-pub use laws::{never_both, one_component, one_refusal, outcome_is_meaning};
+pub use laws::{
+    bad_utf8, closers_never_pass, never_both, one_component, one_of_both, one_refusal,
+    outcome_is_meaning,
+};
 pub use refused::{
     forbidden_tags, great_numbers, keys_taken, limits, names_not_seen, names_taken,
     unclosed_elements, unexpected_tokens, wrong_places,

@@ -1,3 +1,4 @@
 pub mod Utf8
 pub mod Once
 pub mod Computed
+pub mod Either

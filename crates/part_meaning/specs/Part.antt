@@ -1,8 +1,10 @@
 -- Parts of the input: the bytes that mean something in a language, and why the others are refused.
-use Rattle.std.specs.Prelude.{ℕ, List}
+use Rattle.std.specs.Prelude.{◌≡◌, ℕ, Bool, true, List}
 use Rattle.std.specs.Str.{IsUtf8, IsValidUpTo}
 use Rattle.grammar.specs.declared.symbol.Symbol.{Symbol}
 use Rattle.grammar.specs.Ahead.{WithNext, with_next}
+use Rattle.grammar.specs.Descent.{LeadsDown}
+use Rattle.grammar.specs.Ends.{IsLast, Blocks}
 use Rattle.grammar.specs.Lookahead.{Lookahead}
 use Rattle.grammar.specs.Machine.{IsRight, Fits}
 use Rattle.grammar.specs.Meaning.{Means, IsFirstBad, ClosesWith}
@@ -10,8 +12,9 @@ use Rattle.grammar.specs.Semantics.{Semantics}
 use Rattle.grammar.specs.Table.{Table}
 use Rattle.text_lexer.specs.Cursor.{start_of}
 use Rattle.text_lexer.specs.Place.{line_at, column_at}
-use Rattle.text_lexer.specs.Tokens.{Lexed, IsTokenList}
+use Rattle.text_lexer.specs.Tokens.{Lexed, is_last, IsTokenList}
 use Rattle.text_grammar.specs.declared.kind.Seen.{Seen}
+use Rattle.text_grammar.specs.Kind.{kind_of}
 use Rattle.component_items.specs.declared.refusal.Refusal.{Refusal}
 use Rattle.component_items.specs.declared.refusal.Refusal.TheVariants.{Bad}
 use Rattle.component_items.specs.declared.refusal.Why.TheVariants.{BadUtf8}
@@ -32,6 +35,18 @@ pub record IsDecided {W R D S : Type 0} (l : Language W R D S) : Type 0 where
   pub fits : Fits l.table l.lookahead l.text
   pub end : W
   pub closes : ClosesWith end l.text
+
+-- Each reading ends with the last token of the bytes, which is their end or a bad token: before a token is taken, each
+-- rule leads to lower ones alone; and no terminal takes that last token but the one that closes a text. A terminal that
+-- is blocked takes no token at all.
+pub record EndsEach {W R D S : Type 0} (l : Language W R D S) : Type 0 where
+  pub level : R → ℕ
+  pub down : LeadsDown l.table l.lookahead level
+  pub end : W
+  pub blocked : W → Bool
+  pub blocks : (bytes : List ℕ) → Blocks (l.semantics bytes) blocked
+  pub kinds : (bytes : List ℕ) (x : WithNext Lexed) → (l.semantics bytes).kind x ≡ kind_of bytes x.token
+  pub last : (bytes : List ℕ) (x : Lexed) → is_last x ≡ true → IsLast l.table blocked end (kind_of bytes x) l.text
 
 module _ {W R D S : Type 0} (l : Language W R D S) where
   -- The bytes are a text of the language, and their tokens lead to this state. Each token is seen with the next one.

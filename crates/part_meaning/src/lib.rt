@@ -4,4 +4,4 @@
 
 mod laws;
 
-pub use laws::{never_both, one_meaning, one_refusal, outcome_is_meaning};
+pub use laws::{never_both, one_meaning, one_of_both, one_refusal, outcome_is_meaning};

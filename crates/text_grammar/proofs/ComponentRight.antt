@@ -18,7 +18,7 @@ use Rattle.text_grammar.proofs.AllSeen.{all_seen, kind_at}
 abbrev all_terminals : List Terminal
 all_terminals = terminal.Component ∷ terminal.Version ∷ terminal.Signal ∷ terminal.Memo ∷ terminal.Effect ∷ terminal.Resource ∷ terminal.Load ∷ terminal.Store ∷ terminal.Cleanup ∷ terminal.Area ∷ terminal.If ∷ terminal.Each ∷ terminal.Less ∷ terminal.TextItem ∷ terminal.OpenShown ∷ terminal.NewName ∷ terminal.NewArea ∷ terminal.UsedResource ∷ terminal.UsedStore ∷ terminal.NewField ∷ terminal.Assign ∷ terminal.After ∷ terminal.AfterNumber ∷ terminal.Max ∷ terminal.MaxNumber ∷ terminal.Arrow ∷ terminal.CleanupText ∷ terminal.OpenLoadKey ∷ terminal.CloseLoadKey ∷ terminal.OpenBlock ∷ terminal.CloseBlock ∷ terminal.OpenBrace ∷ terminal.CloseBrace ∷ terminal.EmptyKey ∷ terminal.TextKey ∷ terminal.NumberKey ∷ terminal.KeyMinus ∷ terminal.NegatedKey ∷ terminal.OpenTag ∷ terminal.VoidTag ∷ terminal.Dash ∷ terminal.OpenTagPart ∷ terminal.AttributeName ∷ terminal.AttributePart ∷ terminal.AttributeText ∷ terminal.VoidSlash ∷ terminal.Greater ∷ terminal.ClosingTag ∷ terminal.CloseTag ∷ terminal.CloseTagPart ∷ terminal.Closer ∷ terminal.ExpressionIf ∷ terminal.Then ∷ terminal.Else ∷ terminal.EqualTo ∷ terminal.LessThan ∷ terminal.Plus ∷ terminal.Minus ∷ terminal.Star ∷ terminal.Slash ∷ terminal.Percent ∷ terminal.UsedName ∷ terminal.Row ∷ terminal.Dot ∷ terminal.RowField ∷ terminal.OpenParen ∷ terminal.CloseParen ∷ terminal.EmptyLiteral ∷ terminal.TextLiteral ∷ terminal.NumberLiteral ∷ terminal.LiteralMinus ∷ terminal.NegatedLiteral ∷ terminal.End ∷ []
 
-abbrev all_rules : List Rule
+abbrev pub all_rules : List Rule
 all_rules = rule.Component ∷ rule.Items ∷ rule.Pairs ∷ rule.Key ∷ rule.Fields ∷ rule.Element ∷ rule.OpenTagMore ∷ rule.VoidTagMore ∷ rule.VoidEnd ∷ rule.ElementRest ∷ rule.ElementEnd ∷ rule.CloseTagMore ∷ rule.Attributes ∷ rule.AttributeMore ∷ rule.AttributeValue ∷ rule.AssignedValue ∷ rule.Expression ∷ rule.Test ∷ rule.TestMore ∷ rule.Sum ∷ rule.SumMore ∷ rule.Term ∷ rule.TermMore ∷ rule.Atom ∷ rule.Literal ∷ []
 
 passes : is_predictive table lookahead all_rules all_seen ≡ true
@@ -102,7 +102,7 @@ terminal_at terminal.LiteralMinus = (70, refl)
 terminal_at terminal.NegatedLiteral = (71, refl)
 terminal_at terminal.End = (72, refl)
 
-rule_at : (r : Rule) → (i : ℕ) × (production_at all_rules i ≡ Some r)
+pub rule_at : (r : Rule) → (i : ℕ) × (production_at all_rules i ≡ Some r)
 rule_at rule.Component = (0, refl)
 rule_at rule.Items = (1, refl)
 rule_at rule.Pairs = (2, refl)

@@ -17,7 +17,7 @@ use Rattle.text_grammar.proofs.AllSeen.{all_seen, kind_at}
 abbrev all_terminals : List Terminal
 all_terminals = terminal.Phase ∷ terminal.Lane ∷ terminal.Set ∷ terminal.Get ∷ terminal.Pump ∷ terminal.Dispose ∷ terminal.Insert ∷ terminal.Remove ∷ terminal.Move ∷ terminal.SetName ∷ terminal.GetName ∷ terminal.AreaName ∷ terminal.StoreName ∷ terminal.Dot ∷ terminal.OpenBracket ∷ terminal.CloseBracket ∷ terminal.RowField ∷ terminal.TextKey ∷ terminal.NumberKey ∷ terminal.KeyMinus ∷ terminal.NegatedKey ∷ terminal.Assign ∷ terminal.OpenBrace ∷ terminal.CloseBrace ∷ terminal.InsertedField ∷ terminal.At ∷ terminal.To ∷ terminal.PlaceNumber ∷ terminal.EmptyLiteral ∷ terminal.TextLiteral ∷ terminal.NumberLiteral ∷ terminal.LiteralMinus ∷ terminal.NegatedLiteral ∷ terminal.End ∷ []
 
-abbrev all_rules : List Rule
+abbrev pub all_rules : List Rule
 all_rules = rule.Script ∷ rule.Phases ∷ rule.Lanes ∷ rule.Operations ∷ rule.SetPath ∷ rule.SetPathMore ∷ rule.GetPath ∷ rule.GetPathMore ∷ rule.AreaPath ∷ rule.AreaPathMore ∷ rule.StorePath ∷ rule.StorePathMore ∷ rule.Key ∷ rule.Fields ∷ rule.InsertPlace ∷ rule.Literal ∷ []
 
 passes : is_predictive table lookahead all_rules all_seen ≡ true
@@ -62,7 +62,7 @@ terminal_at terminal.LiteralMinus = (31, refl)
 terminal_at terminal.NegatedLiteral = (32, refl)
 terminal_at terminal.End = (33, refl)
 
-rule_at : (r : Rule) → (i : ℕ) × (production_at all_rules i ≡ Some r)
+pub rule_at : (r : Rule) → (i : ℕ) × (production_at all_rules i ≡ Some r)
 rule_at rule.Script = (0, refl)
 rule_at rule.Phases = (1, refl)
 rule_at rule.Lanes = (2, refl)

@@ -1,5 +1,5 @@
 -- The component texts without the production of the closer.
-use Rattle.std.specs.Prelude.{◌≡◌, ◌⊎◌, true, List, [], ◌∷◌, ◌++◌, map, Err}
+use Rattle.std.specs.Prelude.{◌≡◌, ◌⊎◌, Bool, true, false, List, [], ◌∷◌, ◌++◌, map, Err}
 use Rattle.grammar.specs.declared.symbol.Symbol.TheVariants as s
 use Rattle.grammar.specs.Table.{Table, Begins}
 use Rattle.grammar.specs.Semantics.{Semantics, Reads, Refuses}
@@ -21,6 +21,11 @@ closed_productions r = productions r
 
 abbrev pub closed_table : Table Terminal Rule Action Seen
 closed_table = record { matches = matches; productions = closed_productions }
+
+-- the closer, and no other terminal
+abbrev pub is_closer : Terminal → Bool
+is_closer terminal.Closer = true
+is_closer _ = false
 
 -- every token is refused that stands for a closer
 abbrev pub RefusesClosers : {T S E : Type 0} → Semantics Terminal Action Seen T S E → Type 0

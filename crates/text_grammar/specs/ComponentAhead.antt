@@ -163,6 +163,18 @@ rank rule.TermMore = 0
 rank rule.Atom = 0
 rank rule.Literal = 0
 
+-- An order of the rules: before a token is taken, each leads to lower ones alone.
+abbrev pub level : Rule → ℕ
+level rule.Pairs = 1
+level rule.VoidTagMore = 1
+level rule.ElementRest = 1
+level rule.Atom = 1
+level rule.Term = 2
+level rule.Sum = 3
+level rule.Test = 4
+level rule.Expression = 5
+level _ = 0
+
 abbrev pub shortest : Rule → ℕ
 shortest rule.Component = 0
 shortest rule.Items = 13

@@ -32,3 +32,10 @@ kind_of_token token.End bytes = kind.End
 abbrev pub kind_of : List ℕ → Lexed → Seen
 kind_of text (Ok x) = record { kind = kind_of_token x.kind (slice_range text x.start x.end); touches = x.touches }
 kind_of text (Err bad) = record { kind = kind.Bad; touches = false }
+
+-- the end of a text, and what is no token, as the grammars see them
+abbrev pub end_seen : Bool → Seen
+end_seen touches = record { kind = kind.End; touches = touches }
+
+abbrev pub bad_seen : Seen
+bad_seen = record { kind = kind.Bad; touches = false }

@@ -109,6 +109,11 @@ rank rule.Fields = 0
 rank rule.InsertPlace = 0
 rank rule.Literal = 0
 
+-- An order of the rules: before a token is taken, each leads to lower ones alone.
+abbrev pub level : Rule → ℕ
+level rule.Script = 1
+level _ = 0
+
 abbrev pub shortest : Rule → ℕ
 shortest rule.Script = 0
 shortest rule.Phases = 1

@@ -1,6 +1,8 @@
 //! What follows from the definitions alone.
 
-ghost use Rattle.std.specs.Prelude.{◌↔◌, List};
+ghost use Rattle.std.specs.Prelude.{◌↔◌, Bool, false, List};
+ghost use Rattle.grammar.specs.Descent.{LeadsDown};
+ghost use Rattle.grammar.specs.Ends.{IsLast};
 ghost use Rattle.grammar.specs.Machine.{Fits, IsRight};
 ghost use Rattle.grammar.specs.Meaning.{Means};
 ghost use Rattle.grammar.specs.Semantics.{Semantics, Refuses};
@@ -8,8 +10,11 @@ ghost use Rattle.grammar.specs.Table.{Begins, Derives};
 ghost use Rattle.text_grammar.specs.declared.kind.Seen.{Seen};
 ghost use Rattle.text_grammar.specs.declared.component.Action.{Action};
 ghost use Rattle.text_grammar.specs.declared.component.Terminal.{Terminal};
+ghost use Rattle.text_grammar.specs.declared.component.Terminal.TheVariants.{End};
+ghost use Rattle.text_grammar.specs.declared.script.Terminal.TheVariants.{End as ScriptEnd};
 ghost use Rattle.text_grammar.specs.Worked as worked;
-ghost use Rattle.text_grammar.specs.Closed.{closed_table, RefusesClosers, IsUnclosed, RefusesAlike, GoesOnAlike};
+ghost use Rattle.text_grammar.specs.Closed.{closed_table, is_closer, RefusesClosers, IsUnclosed, RefusesAlike, GoesOnAlike};
+ghost use Rattle.text_grammar.specs.Kind.{end_seen, bad_seen};
 ghost use Rattle.text_grammar.specs.Component as component;
 ghost use Rattle.text_grammar.specs.ComponentAhead as component_ahead;
 ghost use Rattle.text_grammar.specs.Script as script;
@@ -26,6 +31,22 @@ pub fn component_reads_by_one_token()
 pub fn script_reads_by_one_token()
     ensures right { IsRight script.table script_ahead.lookahead }
     ensures fits { Fits script.table script_ahead.lookahead script.text }
+{}
+
+/// The end of a component text stands last: the rules lead down before a token is taken, no terminal but the
+/// last takes the end, where closers take nothing, and none takes what is no token.
+pub fn component_ends()
+    ensures down { LeadsDown component.table component_ahead.lookahead component_ahead.level }
+    ensures end { (touches : Bool) → IsLast component.table is_closer End (end_seen touches) component.text }
+    ensures bad { IsLast component.table is_closer End bad_seen component.text }
+{}
+
+/// The end of a script text stands last: the rules lead down before a token is taken, no terminal but the last
+/// takes the end, and none takes what is no token.
+pub fn script_ends()
+    ensures down { LeadsDown script.table script_ahead.lookahead script_ahead.level }
+    ensures end { (touches : Bool) → IsLast script.table (λ w. false) ScriptEnd (end_seen touches) script.text }
+    ensures bad { IsLast script.table (λ w. false) ScriptEnd bad_seen script.text }
 {}
 
 /// The closer adds no text: where every closer is refused, a list of tokens means by the table what it

@@ -9,8 +9,8 @@ pub mod script;
 
 pub use kind::{Class, Kind, Seen, kind_of};
 pub use laws::{
-    closers_add_no_text, closers_leave_elements_open, component_reads_by_one_token,
-    script_reads_by_one_token, worked_texts,
+    closers_add_no_text, closers_leave_elements_open, component_ends, component_reads_by_one_token,
+    script_ends, script_reads_by_one_token, worked_texts,
 };
 
 #[cfg(test)]
