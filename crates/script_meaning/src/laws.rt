@@ -1,6 +1,6 @@
 //! What follows from the definitions alone.
 
-ghost use Rattle.std.specs.Prelude.{◌≡◌, ℕ, List};
+ghost use Rattle.std.specs.Prelude.{◌≡◌, ◌⊎◌, ℕ, List};
 ghost use Rattle.component_items.specs.declared.component.Component.{Component};
 ghost use Rattle.component_items.specs.declared.refusal.Refusal.{Refusal};
 ghost use Rattle.script_items.specs.declared.operation.ScriptOp.{ScriptOp};
@@ -20,4 +20,9 @@ pub fn never_both()
 /// A text is refused for one reason at one place.
 pub fn one_refusal()
     ensures { (component : Component) (first_line : ℕ) (bytes : List ℕ) (a b : Refusal) → IsNoScript component first_line bytes a → IsNoScript component first_line bytes b → a ≡ b }
+{}
+
+/// Bytes are the text of a script for a component, or are refused.
+pub fn one_of_both()
+    ensures { (component : Component) (first_line : ℕ) (bytes : List ℕ) → ((script : List (List (List ScriptOp))) × (texts : List (List ℕ)) × IsScript component first_line bytes script texts) ⊎ ((why : Refusal) × IsNoScript component first_line bytes why) }
 {}

@@ -5,7 +5,7 @@
 mod laws;
 mod worked;
 
-pub use laws::{never_both, one_refusal, one_script};
+pub use laws::{never_both, one_of_both, one_refusal, one_script};
 pub use worked::{
     accepted_scripts, fields_of_rows, names_in_paths, numbers_and_tokens, phases_and_lanes,
 };
