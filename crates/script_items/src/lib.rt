@@ -2,5 +2,7 @@
 #![tactic(auto)]
 
 mod operation;
+mod script;
 
 pub use operation::ScriptOp;
+pub use script::{MAX_LANES, MAX_PHASES, Script};
