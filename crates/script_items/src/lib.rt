@@ -6,3 +6,6 @@ mod script;
 
 pub use operation::ScriptOp;
 pub use script::{MAX_LANES, MAX_PHASES, Script};
+
+#[cfg(test)]
+mod tests;

@@ -1,7 +1,7 @@
 //! Scripts.
 ghost use Rattle.std.specs.Prelude.{◌≡◌, [], ◌∷◌, ◌++◌, ◌<◌, ◌≤◌, ◌↔◌, length, slice_get, IsSome, IsSomeAnd, OnOk, OnErr};
 ghost use Rattle.std.specs.Option.{option_copied};
-ghost use Rattle.script_items.specs.Script.{at_last, lanes_of, op_at, with_phase, with_lane, with_op, IsScript};
+ghost use Rattle.script_items.specs.Script.{numbered, lanes_of, op_at, with_phase, with_lane, with_op, IsScript};
 
 use crate::operation::ScriptOp;
 use std::alloc::Global;
@@ -56,8 +56,7 @@ impl Script {
         ensures count { result ≡ lanes_of self.now phase }
         ensures within { IsSome result ↔ ((0 < phase) × (phase ≤ length self.now)) }
     {
-        let before = phase.checked_sub(1)?;
-        let phase = self.phases.get(before as usize)?;
+        let phase = nth_item(self.phases.as_slice(), phase)?;
         Some(phase.len() as u32)
     }
 
@@ -66,9 +65,7 @@ impl Script {
     pub fn op(&self, phase: u32, lane: u32, op: u32) -> Option<&ScriptOp>
         ensures { option_copied result ≡ op_at self.now phase lane op }
     {
-        let before = phase.checked_sub(1)?;
-        let phase = self.phases.get(before as usize)?;
-        phase.op(lane, op)
+        nth_item(self.phases.as_slice(), phase)?.op(lane, op)
     }
 
     /// Begins a phase at the end. It has no lane yet.
@@ -145,10 +142,8 @@ impl Phase {
     fn op(&self, lane: u32, op: u32) -> Option<&ScriptOp>
         ensures { option_copied result ≡ option_and_then (λ ops. numbered ops op) (numbered self.now lane) }
     {
-        let before = lane.checked_sub(1)?;
-        let lane = self.lanes.get(before as usize)?;
-        let before = op.checked_sub(1)?;
-        lane.at(before as usize)
+        let lane = nth_item(self.lanes.as_slice(), lane)?;
+        nth_item(lane.as_slice(), op)
     }
 
     /// Begins a lane at the end.
@@ -171,4 +166,12 @@ impl Phase {
         let lane = &mut self.lanes[last];
         lane.push(op)
     }
+}
+
+/// The item with this number, counted from 1.
+fn nth_item<T>(items: &[T], number: u32) -> Option<&T>
+    ensures { option_copied result ≡ numbered items.now number }
+{
+    let before = number.checked_sub(1)?;
+    items.get(before as usize)
 }
