@@ -2,5 +2,10 @@
 #![tactic(auto)]
 
 mod operation;
+mod script;
 
 pub use operation::ScriptOp;
+pub use script::{MAX_LANES, MAX_PHASES, Script};
+
+#[cfg(test)]
+mod tests;

@@ -13,11 +13,16 @@ pub enum ScriptOp {
         code: Code,
     },
     /// Reads the value of a signal, memo or load, or of a field of the row with the key.
-    Get { id: u32, key: Option<Code> },
+    Get {
+        id: u32,
+        key: Option<Code>,
+    },
     /// Runs the effects.
     Pump,
     /// Disposes the area with this owner.
-    Dispose { owner: u32 },
+    Dispose {
+        owner: u32,
+    },
     /// Edits a store.
     Change(Edit),
 }
