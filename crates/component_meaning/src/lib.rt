@@ -12,6 +12,6 @@ pub use laws::{
     outcome_is_meaning,
 };
 pub use refused::{
-    forbidden_tags, great_numbers, keys_taken, limits, names_not_seen, names_taken,
+    forbidden_tags, great_numbers, keys_taken, limits, names_not_seen, names_taken, too_many_nodes,
     unclosed_elements, unexpected_tokens, wrong_places,
 };

@@ -103,3 +103,9 @@ pub fn limits()
     ensures open_blocks { RefusedAt (codes "component 1\nif 1 {if 1 {if 1 {if 1 {if 1 {if 1 {if 1 {if 1 {if 1 {if 1 {if 1 {if 1 {if 1 {if 1 {if 1 {if 1 {if 1 {if 1 {if 1 {if 1 {if 1 {if 1 {if 1 {if 1 {if 1 {if 1 {if 1 {if 1 {if 1 {if 1 {if 1 {if 1 {if 1 {") Why.TooDeep 2 198 }
     ensures tokens_of_an_expression { RefusedAt (codes "component 1\nmemo m = 1+1+1+1+1+1+1+1+1+1+1+1+1+1+1+1+1+1+1+1+1+1+1+1+1+1+1+1+1+1+1+1+1+1+1+1+1+1+1+1+1+1+1+1+1+1+1+1+1+1+1+1+1+1+1+1+1+1+1+1+1+1+1+1+1+1+1+1+1+1+1+1+1+1+1+1+1+1+1+1+1+1+1+1+1+1+1+1+1+1+1+1+1+1+1+1+1+1+1+1+1+1+1+1+1+1+1+1+1+1+1+1+1+1+1+1+1+1+1+1+1+1+1+1+1+1+1+1+1") Why.TooDeep 2 266 }
 {}
+
+/// Refused: the items lay out too many nodes.
+pub fn too_many_nodes()
+    ensures values { RefusedAt (codes "component 1\nstore s max 4096 { t = 0 }\nsignal a = 1") (Why.TooLarge Count.Nodes) 3 13 }
+    ensures rows { RefusedAt (codes "component 1\nstore s max 2049 {} each s { {row.key} {1} }") (Why.TooLarge Count.Nodes) 2 45 }
+{}
