@@ -1,7 +1,7 @@
 //! Scripts.
-ghost use Rattle.std.specs.Prelude.{◌≡◌, [], ◌∷◌, ◌++◌, ◌<◌, ◌≤◌, ◌↔◌, length, slice_get, IsSome, IsSomeAnd, OnOk, OnErr};
-ghost use Rattle.std.specs.Option.{option_copied};
-ghost use Rattle.script_items.specs.Script.{numbered, lanes_of, op_at, with_phase, with_lane, with_op, IsScript};
+ghost use Rattle.std.specs.Prelude.{◌≡◌, [], ◌∷◌, ◌++◌, ◌<◌, ◌≤◌, ◌↔◌, length, IsSome, IsSomeAnd, OnOk, OnErr};
+ghost use Rattle.std.specs.Option.{option_copied, option_and_then};
+ghost use Rattle.script_items.specs.Script.{numbered, at_last, lanes_of, op_at, with_phase, with_lane, with_op, IsScript};
 
 use crate::operation::ScriptOp;
 use std::alloc::Global;
@@ -118,10 +118,6 @@ impl Model for Phase {
 }
 
 impl Phase {
-    ghost use Rattle.std.specs.Prelude.{◌≡◌, [], ◌∷◌, ◌++◌, ◌<◌, length, OnOk, OnErr};
-    ghost use Rattle.std.specs.Option.{option_copied, option_and_then};
-    ghost use Rattle.script_items.specs.Script.{numbered, at_last};
-
     /// The phase of no lanes.
     fn new(alloc: Global) -> Phase
         ensures { result ≡ [] }
