@@ -1,10 +1,12 @@
-use Rattle.std.proofs.Common.{◌≡◌, ◌≤◌, List, [], ◌∷◌, codes, pos, negsuc, Some, refl, arith}
+use Rattle.std.proofs.Common.{◌≡◌, ◌≤◌, List, [], ◌∷◌, true, codes, pos, negsuc, Some, refl, arith}
 use Rattle.values.specs.declared.code.Code.TheVariants.{Number}
+use Rattle.values.specs.declared.code.Op.TheVariants as op
+use Rattle.values.specs.declared.expr.Expr.TheVariants.{Lit, Binary}
 use Rattle.component_items.specs.declared.component.Component.{Component}
 use Rattle.component_items.specs.declared.component.Item.{Item}
 use Rattle.component_items.specs.declared.component.Item.TheVariants as item
 use Rattle.component_items.specs.Counts.{item_maximum, item_nodes, nodes_of}
-use Rattle.component_items.proofs.FoldLemmas.{fold-Signal, fold-Store}
+use Rattle.component_items.proofs.FoldLemmas.{fold-Element, fold-Memo, fold-Signal, fold-Store}
 use Rattle.component_meaning.specs.Computed.{read_of}
 use Rattle.component_meaning.proofs.Decided.{computed_component}
 use Rattle.component_meaning.proofs.accepted.limits_reached.Goals as goal
@@ -65,3 +67,41 @@ nodes_nodes = let count = nodes_count in omega arith
 
 pub returns-clause-nodes : goal.returns-clause-nodes
 returns-clause-nodes c = computed_component (codes "component 1\nstore s max 4096 { t = 0 }") nodes_component nodes_read nodes_nodes
+
+abbrev open_elements_items : List Item
+open_elements_items = item.Element 1 true [] (item.Element 1 true [] (item.Element 1 true [] (item.Element 1 true [] (item.Element 1 true [] (item.Element 1 true [] (item.Element 1 true [] (item.Element 1 true [] (item.Element 1 true [] (item.Element 1 true [] (item.Element 1 true [] (item.Element 1 true [] (item.Element 1 true [] (item.Element 1 true [] (item.Element 1 true [] (item.Element 1 true [] (item.Element 1 true [] (item.Element 1 true [] (item.Element 1 true [] (item.Element 1 true [] (item.Element 1 true [] (item.Element 1 true [] (item.Element 1 true [] (item.Element 1 true [] (item.Element 1 true [] (item.Element 1 true [] (item.Element 1 true [] (item.Element 1 true [] (item.Element 1 true [] (item.Element 1 true [] (item.Element 1 true [] (item.Element 1 true [] ([]) ∷ []) ∷ []) ∷ []) ∷ []) ∷ []) ∷ []) ∷ []) ∷ []) ∷ []) ∷ []) ∷ []) ∷ []) ∷ []) ∷ []) ∷ []) ∷ []) ∷ []) ∷ []) ∷ []) ∷ []) ∷ []) ∷ []) ∷ []) ∷ []) ∷ []) ∷ []) ∷ []) ∷ []) ∷ []) ∷ []) ∷ []) ∷ []
+
+abbrev open_elements_component : Component
+open_elements_component = record { texts = [] ∷ codes "p" ∷ []; items = open_elements_items }
+
+open_elements_read : read_of (codes "component 1\n<p><p><p><p><p><p><p><p><p><p><p><p><p><p><p><p><p><p><p><p><p><p><p><p><p><p><p><p><p><p><p><p></p></p></p></p></p></p></p></p></p></p></p></p></p></p></p></p></p></p></p></p></p></p></p></p></p></p></p></p></p></p></p></p>") ≡ Some open_elements_component
+open_elements_read = refl
+
+open_elements_count : nodes_of open_elements_items ≡ 0
+unfolding item_maximum item_nodes
+open_elements_count = simp fold-Element
+
+open_elements_nodes : nodes_of open_elements_items ≤ 4096
+open_elements_nodes = let count = open_elements_count in omega arith
+
+pub returns-clause-open_elements : goal.returns-clause-open_elements
+returns-clause-open_elements c = computed_component (codes "component 1\n<p><p><p><p><p><p><p><p><p><p><p><p><p><p><p><p><p><p><p><p><p><p><p><p><p><p><p><p><p><p><p><p></p></p></p></p></p></p></p></p></p></p></p></p></p></p></p></p></p></p></p></p></p></p></p></p></p></p></p></p></p></p></p></p>") open_elements_component open_elements_read open_elements_nodes
+
+abbrev tokens_of_an_expression_items : List Item
+tokens_of_an_expression_items = item.Memo 0 1 (Binary op.Add (Binary op.Add (Binary op.Add (Binary op.Add (Binary op.Add (Binary op.Add (Binary op.Add (Binary op.Add (Binary op.Add (Binary op.Add (Binary op.Add (Binary op.Add (Binary op.Add (Binary op.Add (Binary op.Add (Binary op.Add (Binary op.Add (Binary op.Add (Binary op.Add (Binary op.Add (Binary op.Add (Binary op.Add (Binary op.Add (Binary op.Add (Binary op.Add (Binary op.Add (Binary op.Add (Binary op.Add (Binary op.Add (Binary op.Add (Binary op.Add (Binary op.Add (Binary op.Add (Binary op.Add (Binary op.Add (Binary op.Add (Binary op.Add (Binary op.Add (Binary op.Add (Binary op.Add (Binary op.Add (Binary op.Add (Binary op.Add (Binary op.Add (Binary op.Add (Binary op.Add (Binary op.Add (Binary op.Add (Binary op.Add (Binary op.Add (Binary op.Add (Binary op.Add (Binary op.Add (Binary op.Add (Binary op.Add (Binary op.Add (Binary op.Add (Binary op.Add (Binary op.Add (Binary op.Add (Binary op.Add (Binary op.Add (Binary op.Add (Binary op.Add (Binary op.Add (Binary op.Add (Binary op.Add (Binary op.Add (Binary op.Add (Binary op.Add (Binary op.Add (Binary op.Add (Binary op.Add (Binary op.Add (Binary op.Add (Binary op.Add (Binary op.Add (Binary op.Add (Binary op.Add (Binary op.Add (Binary op.Add (Binary op.Add (Binary op.Add (Binary op.Add (Binary op.Add (Binary op.Add (Binary op.Add (Binary op.Add (Binary op.Add (Binary op.Add (Binary op.Add (Binary op.Add (Binary op.Add (Binary op.Add (Binary op.Add (Binary op.Add (Binary op.Add (Binary op.Add (Binary op.Add (Binary op.Add (Binary op.Add (Binary op.Add (Binary op.Add (Binary op.Add (Binary op.Add (Binary op.Add (Binary op.Add (Binary op.Add (Binary op.Add (Binary op.Add (Binary op.Add (Binary op.Add (Binary op.Add (Binary op.Add (Binary op.Add (Binary op.Add (Binary op.Add (Binary op.Add (Binary op.Add (Binary op.Add (Binary op.Add (Binary op.Add (Binary op.Add (Binary op.Add (Binary op.Add (Binary op.Add (Binary op.Add (Lit (Number (negsuc 0))) (Lit (Number (pos 1)))) (Lit (Number (pos 1)))) (Lit (Number (pos 1)))) (Lit (Number (pos 1)))) (Lit (Number (pos 1)))) (Lit (Number (pos 1)))) (Lit (Number (pos 1)))) (Lit (Number (pos 1)))) (Lit (Number (pos 1)))) (Lit (Number (pos 1)))) (Lit (Number (pos 1)))) (Lit (Number (pos 1)))) (Lit (Number (pos 1)))) (Lit (Number (pos 1)))) (Lit (Number (pos 1)))) (Lit (Number (pos 1)))) (Lit (Number (pos 1)))) (Lit (Number (pos 1)))) (Lit (Number (pos 1)))) (Lit (Number (pos 1)))) (Lit (Number (pos 1)))) (Lit (Number (pos 1)))) (Lit (Number (pos 1)))) (Lit (Number (pos 1)))) (Lit (Number (pos 1)))) (Lit (Number (pos 1)))) (Lit (Number (pos 1)))) (Lit (Number (pos 1)))) (Lit (Number (pos 1)))) (Lit (Number (pos 1)))) (Lit (Number (pos 1)))) (Lit (Number (pos 1)))) (Lit (Number (pos 1)))) (Lit (Number (pos 1)))) (Lit (Number (pos 1)))) (Lit (Number (pos 1)))) (Lit (Number (pos 1)))) (Lit (Number (pos 1)))) (Lit (Number (pos 1)))) (Lit (Number (pos 1)))) (Lit (Number (pos 1)))) (Lit (Number (pos 1)))) (Lit (Number (pos 1)))) (Lit (Number (pos 1)))) (Lit (Number (pos 1)))) (Lit (Number (pos 1)))) (Lit (Number (pos 1)))) (Lit (Number (pos 1)))) (Lit (Number (pos 1)))) (Lit (Number (pos 1)))) (Lit (Number (pos 1)))) (Lit (Number (pos 1)))) (Lit (Number (pos 1)))) (Lit (Number (pos 1)))) (Lit (Number (pos 1)))) (Lit (Number (pos 1)))) (Lit (Number (pos 1)))) (Lit (Number (pos 1)))) (Lit (Number (pos 1)))) (Lit (Number (pos 1)))) (Lit (Number (pos 1)))) (Lit (Number (pos 1)))) (Lit (Number (pos 1)))) (Lit (Number (pos 1)))) (Lit (Number (pos 1)))) (Lit (Number (pos 1)))) (Lit (Number (pos 1)))) (Lit (Number (pos 1)))) (Lit (Number (pos 1)))) (Lit (Number (pos 1)))) (Lit (Number (pos 1)))) (Lit (Number (pos 1)))) (Lit (Number (pos 1)))) (Lit (Number (pos 1)))) (Lit (Number (pos 1)))) (Lit (Number (pos 1)))) (Lit (Number (pos 1)))) (Lit (Number (pos 1)))) (Lit (Number (pos 1)))) (Lit (Number (pos 1)))) (Lit (Number (pos 1)))) (Lit (Number (pos 1)))) (Lit (Number (pos 1)))) (Lit (Number (pos 1)))) (Lit (Number (pos 1)))) (Lit (Number (pos 1)))) (Lit (Number (pos 1)))) (Lit (Number (pos 1)))) (Lit (Number (pos 1)))) (Lit (Number (pos 1)))) (Lit (Number (pos 1)))) (Lit (Number (pos 1)))) (Lit (Number (pos 1)))) (Lit (Number (pos 1)))) (Lit (Number (pos 1)))) (Lit (Number (pos 1)))) (Lit (Number (pos 1)))) (Lit (Number (pos 1)))) (Lit (Number (pos 1)))) (Lit (Number (pos 1)))) (Lit (Number (pos 1)))) (Lit (Number (pos 1)))) (Lit (Number (pos 1)))) (Lit (Number (pos 1)))) (Lit (Number (pos 1)))) (Lit (Number (pos 1)))) (Lit (Number (pos 1)))) (Lit (Number (pos 1)))) (Lit (Number (pos 1)))) (Lit (Number (pos 1)))) (Lit (Number (pos 1)))) (Lit (Number (pos 1)))) (Lit (Number (pos 1)))) (Lit (Number (pos 1)))) (Lit (Number (pos 1)))) (Lit (Number (pos 1)))) (Lit (Number (pos 1)))) (Lit (Number (pos 1)))) (Lit (Number (pos 1)))) (Lit (Number (pos 1)))) (Lit (Number (pos 1)))) (Lit (Number (pos 1)))) (Lit (Number (pos 1)))) (Lit (Number (pos 1)))) (Lit (Number (pos 1)))) (Lit (Number (pos 1)))) (Lit (Number (pos 1)))) ∷ []
+
+abbrev tokens_of_an_expression_component : Component
+tokens_of_an_expression_component = record { texts = [] ∷ codes "m" ∷ []; items = tokens_of_an_expression_items }
+
+tokens_of_an_expression_read : read_of (codes "component 1\nmemo m = -1+1+1+1+1+1+1+1+1+1+1+1+1+1+1+1+1+1+1+1+1+1+1+1+1+1+1+1+1+1+1+1+1+1+1+1+1+1+1+1+1+1+1+1+1+1+1+1+1+1+1+1+1+1+1+1+1+1+1+1+1+1+1+1+1+1+1+1+1+1+1+1+1+1+1+1+1+1+1+1+1+1+1+1+1+1+1+1+1+1+1+1+1+1+1+1+1+1+1+1+1+1+1+1+1+1+1+1+1+1+1+1+1+1+1+1+1+1+1+1+1+1+1+1+1+1+1+1") ≡ Some tokens_of_an_expression_component
+tokens_of_an_expression_read = refl
+
+tokens_of_an_expression_count : nodes_of tokens_of_an_expression_items ≡ 1
+unfolding item_maximum item_nodes
+tokens_of_an_expression_count = simp fold-Memo
+
+tokens_of_an_expression_nodes : nodes_of tokens_of_an_expression_items ≤ 4096
+tokens_of_an_expression_nodes = let count = tokens_of_an_expression_count in omega arith
+
+pub returns-clause-tokens_of_an_expression : goal.returns-clause-tokens_of_an_expression
+returns-clause-tokens_of_an_expression c = computed_component (codes "component 1\nmemo m = -1+1+1+1+1+1+1+1+1+1+1+1+1+1+1+1+1+1+1+1+1+1+1+1+1+1+1+1+1+1+1+1+1+1+1+1+1+1+1+1+1+1+1+1+1+1+1+1+1+1+1+1+1+1+1+1+1+1+1+1+1+1+1+1+1+1+1+1+1+1+1+1+1+1+1+1+1+1+1+1+1+1+1+1+1+1+1+1+1+1+1+1+1+1+1+1+1+1+1+1+1+1+1+1+1+1+1+1+1+1+1+1+1+1+1+1+1+1+1+1+1+1+1+1+1+1+1+1") tokens_of_an_expression_component tokens_of_an_expression_read tokens_of_an_expression_nodes

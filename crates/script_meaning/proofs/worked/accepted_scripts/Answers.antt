@@ -44,6 +44,15 @@ sixteen_lanes_read = refl
 pub returns-clause-sixteen_lanes : goal.returns-clause-sixteen_lanes
 returns-clause-sixteen_lanes c = computed_script worked_component worked_names 1 (codes "phase lane lane lane lane lane lane lane lane lane lane lane lane lane lane lane lane") sixteen_lanes_means named sixteen_lanes_read
 
+abbrev sixty_four_phases_means : Read
+sixty_four_phases_means = record { phases = [] ∷ [] ∷ [] ∷ [] ∷ [] ∷ [] ∷ [] ∷ [] ∷ [] ∷ [] ∷ [] ∷ [] ∷ [] ∷ [] ∷ [] ∷ [] ∷ [] ∷ [] ∷ [] ∷ [] ∷ [] ∷ [] ∷ [] ∷ [] ∷ [] ∷ [] ∷ [] ∷ [] ∷ [] ∷ [] ∷ [] ∷ [] ∷ [] ∷ [] ∷ [] ∷ [] ∷ [] ∷ [] ∷ [] ∷ [] ∷ [] ∷ [] ∷ [] ∷ [] ∷ [] ∷ [] ∷ [] ∷ [] ∷ [] ∷ [] ∷ [] ∷ [] ∷ [] ∷ [] ∷ [] ∷ [] ∷ [] ∷ [] ∷ [] ∷ [] ∷ [] ∷ [] ∷ [] ∷ [] ∷ []; texts = worked_texts }
+
+sixty_four_phases_read : read_of worked_texts worked_names 1 (codes "phase phase phase phase phase phase phase phase phase phase phase phase phase phase phase phase phase phase phase phase phase phase phase phase phase phase phase phase phase phase phase phase phase phase phase phase phase phase phase phase phase phase phase phase phase phase phase phase phase phase phase phase phase phase phase phase phase phase phase phase phase phase phase phase ") ≡ Some sixty_four_phases_means
+sixty_four_phases_read = refl
+
+pub returns-clause-sixty_four_phases : goal.returns-clause-sixty_four_phases
+returns-clause-sixty_four_phases c = computed_script worked_component worked_names 1 (codes "phase phase phase phase phase phase phase phase phase phase phase phase phase phase phase phase phase phase phase phase phase phase phase phase phase phase phase phase phase phase phase phase phase phase phase phase phase phase phase phase phase phase phase phase phase phase phase phase phase phase phase phase phase phase phase phase phase phase phase phase phase phase phase phase ") sixty_four_phases_means named sixty_four_phases_read
+
 abbrev values_means : Read
 values_means = record { phases = ((op.Set 0 None (Number (pos 5)) ∷ op.Get 1 None ∷ op.Pump ∷ op.Set 7 None (Word 13) ∷ op.Get 9 None ∷ op.Dispose 2 ∷ []) ∷ (op.Set 5 (Some (Number (pos 1))) Empty ∷ op.Get 4 (Some (Word 14)) ∷ []) ∷ []) ∷ []; texts = (worked_texts ++ codes "q" ∷ codes "k" ∷ []) }
 
