@@ -1,3 +1,5 @@
 pub mod Decided
 pub mod WorkedNames
 pub mod InputDecided
+pub mod InputComputed
+pub mod InputWorked
