@@ -1,5 +1,5 @@
 -- From one line to the next.
-use Rattle.std.proofs.Common.{◌≡◌, ℕ, zero, suc, ◌+◌, ◌-◌, ◌<◌, ◌≤◌, Bool, true, false, List, length, take, get_or, slice_range, refl, sym, ◌∙◌, ap, subst, arith, ◌⊎◌, inl, inr}
+use Rattle.std.proofs.Common.{◌≡◌, ℕ, zero, suc, ◌+◌, ◌-◌, ◌<◌, ◌≤◌, true, false, List, length, take, get_or, slice_range, sym, ◌∙◌, ap, subst, arith, ◌⊎◌, inl, inr}
 use Rattle.std.specs.List.{count_by}
 use Rattle.std.proofs.lemmas.Bool.{eq-eqb, ne_eqb}
 use Rattle.std.proofs.lemmas.List.{take_all}
@@ -44,7 +44,7 @@ last_line bytes start within none =
     omega arith
 
 -- a line that begins at the same place ends at the same place
-one_stop : (bytes : List ℕ) (start stop end : ℕ) → start ≤ stop → stop ≤ length bytes → NoneInside bytes start stop → (stop < length bytes → get_or bytes stop 0 ≡ 10) → IsLine bytes start end
+pub one_stop : (bytes : List ℕ) (start stop end : ℕ) → start ≤ stop → stop ≤ length bytes → NoneInside bytes start stop → (stop < length bytes → get_or bytes stop 0 ≡ 10) → IsLine bytes start end
     → (end < stop → ⊥) × (stop < end → ⊥)
 one_stop bytes start stop end ordered within none ends line = (
   (λ less. none end line.ordered less (line.ends (omega arith))),

@@ -1,2 +1,3 @@
 pub mod Separator
 pub mod Parts
+pub mod Computed

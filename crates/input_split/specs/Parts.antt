@@ -1,5 +1,5 @@
 -- The parts of an input.
-use Rattle.std.specs.Prelude.{◌≡◌, ℕ, ◌+◌, ◌<◌, List, length, min, count_by}
+use Rattle.std.specs.Prelude.{◌≡◌, ◌⊎◌, ℕ, ◌+◌, ◌<◌, List, length, min, count_by}
 use Rattle.text_lexer.specs.Bytes.{is_line_feed}
 use Rattle.text_lexer.specs.Place.{line_at}
 use Rattle.input_split.specs.declared.Split.{Split}
@@ -19,3 +19,7 @@ pub record IsUndivided (bytes : List ℕ) (split : Split) : Type 0 where
   pub component : split.component_end ≡ length bytes
   pub script : split.script_start ≡ length bytes
   pub line : split.script_line ≡ count_by is_line_feed bytes + 1
+
+-- where the parts of the input are
+abbrev pub IsSplit : List ℕ → Split → Type 0
+IsSplit bytes split = SplitsAt bytes split ⊎ IsUndivided bytes split

@@ -1,9 +1,13 @@
 //! The two parts of an input: the component text, and behind a line `---` the script text.
 #![tactic(auto)]
 
+mod laws;
+
 ghost use Rattle.std.specs.Prelude.{◌≡◌, ◌≢◌, ◌⊎◌, ℕ, ◌<◌, ◌≤◌, ◌+◌, ◌^◌, length, slice_index};
 ghost use Rattle.input_split.specs.Separator as spec;
 ghost use Rattle.input_split.specs.Parts.{SplitsAt, IsUndivided};
+
+pub use laws::{one_split, split_computes, worked_splits};
 
 /// Where the parts of an input are. The component text is what stands before `component_end`, and the
 /// script text what stands from `script_start` on, whose first line has the number `script_line` in the

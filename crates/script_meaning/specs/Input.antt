@@ -1,16 +1,12 @@
 -- Whole inputs: a component text, and behind a line `---` the text of a script for that component.
-use Rattle.std.specs.Prelude.{◌⊎◌, ℕ, List, take, drop}
+use Rattle.std.specs.Prelude.{ℕ, List, take, drop}
 use Rattle.input_split.specs.declared.Split.{Split}
-use Rattle.input_split.specs.Parts.{SplitsAt, IsUndivided}
+use Rattle.input_split.specs.Parts.{IsSplit}
 use Rattle.component_items.specs.declared.component.Component.{Component}
 use Rattle.component_items.specs.declared.refusal.Refusal.{Refusal}
 use Rattle.component_meaning.specs.Component.{IsComponent, IsNoComponent}
 use Rattle.script_items.specs.declared.operation.ScriptOp.{ScriptOp}
 use Rattle.script_meaning.specs.Script.{IsScript, IsNoScript}
-
--- where the parts of the bytes are
-abbrev pub IsSplit : List ℕ → Split → Type 0
-IsSplit bytes split = SplitsAt bytes split ⊎ IsUndivided bytes split
 
 abbrev pub component_part : List ℕ → Split → List ℕ
 component_part bytes split = take split.component_end bytes

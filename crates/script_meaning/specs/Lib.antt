@@ -7,3 +7,4 @@ pub mod Script
 pub mod Input
 pub mod Computed
 pub mod Worked
+pub mod WorkedInput

@@ -1,7 +1,5 @@
-use Rattle.std.proofs.Common.{◌≡◌, ℕ, ◌+◌, ◌-◌, ◌<◌, ◌≤◌, false, length, get_or, slice_range, count_by, inr, sym, ◌∙◌, ap, subst, arith}
-use Rattle.text_lexer.specs.Bytes.{is_line_feed}
-use Rattle.text_lexer.specs.Place.{line_at}
-use Rattle.input_split.specs.Separator.{is_separator, IsLine, IsSeparator}
+use Rattle.std.proofs.Common.{◌≡◌, ◌+◌, ◌-◌, ◌<◌, false, length, get_or, slice_range, inr, sym, ◌∙◌, ap, subst, arith}
+use Rattle.input_split.specs.Separator.{is_separator}
 use Rattle.input_split.proofs.Lines.{NoneInside, next_line, last_line, none_before}
 use Rattle.input_split.proofs.split_input.Goals as goal
 
