@@ -76,3 +76,14 @@ pub computed_nodes : (bytes : List ℕ) (component : Component) → read_of byte
 computed_nodes bytes component is many =
     let found = read_component bytes component (outcome component_text bytes) refl is in
     too_large found.0 found.1 (subst (λ (c : Component). 4096 < nodes_of c.items) (sym found.2) many)
+
+-- ---- the same for worked rows
+
+pub refused_row : {bytes : List ℕ} {why : Refusal} → refusal_of bytes ≡ Some why → IsNoComponent bytes why
+refused_row {bytes = bytes} {why = why} is = computed_refusal bytes why is
+
+pub component_row : {bytes : List ℕ} {component : Component} → read_of bytes ≡ Some component → nodes_of component.items ≤ 4096 → IsComponent bytes component
+component_row {bytes = bytes} {component = component} is few = computed_component bytes component is few
+
+pub large_row : {bytes : List ℕ} {component : Component} → read_of bytes ≡ Some component → 4096 < nodes_of component.items → IsNoComponent bytes (too_many_nodes bytes)
+large_row {bytes = bytes} {component = component} is many = computed_nodes bytes component is many

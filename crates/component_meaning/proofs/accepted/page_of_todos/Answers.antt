@@ -9,7 +9,7 @@ use Rattle.component_items.specs.declared.component.Item.TheVariants as item
 use Rattle.component_items.specs.Counts.{item_maximum, item_nodes, maximum_in, nodes_of}
 use Rattle.component_items.proofs.FoldLemmas.{at-Area, at-Cleanup, at-Each, at-Element, at-If, at-Memo, at-Shown, at-Signal, at-Store, at-Text, fold-Area, fold-Cleanup, fold-Each, fold-Element, fold-If, fold-Memo, fold-Shown, fold-Signal, fold-Store, fold-Text}
 use Rattle.component_meaning.specs.Computed.{read_of}
-use Rattle.component_meaning.proofs.Decided.{computed_component}
+use Rattle.component_meaning.proofs.Decided.{component_row}
 use Rattle.component_meaning.proofs.accepted.page_of_todos.Goals as goal
 
 abbrev page_items : List Item
@@ -33,4 +33,4 @@ page_nodes : nodes_of page_items ≤ 4096
 page_nodes = let count = page_count in omega arith
 
 pub returns : goal.returns
-returns c = computed_component (codes "component 1\nsignal user = \"Ann\"\nsignal done = 1\nstore todos max 50 { title = \"\" ok = 0 }\nmemo left = 3 - done\n<main class=\"app\">\n <h1>\"Todos of \" {user}</h1>\n if left { <p>{left} \" left\"</p> }\n <ul>each todos { <li data-id={row.key}>{row.title} if row.ok { \" (done)\" }</li> }</ul>\n area help { signal text = \"Press & type\" <footer>{text}</footer> cleanup \"help closed\" }\n</main>\n") page_component page_read page_nodes
+returns c = component_row page_read page_nodes

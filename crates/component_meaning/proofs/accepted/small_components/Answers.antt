@@ -9,7 +9,7 @@ use Rattle.component_items.specs.declared.component.Item.TheVariants as item
 use Rattle.component_items.specs.Counts.{item_maximum, item_nodes, maximum_in, nodes_of}
 use Rattle.component_items.proofs.FoldLemmas.{at-Each, at-If, at-Memo, at-Shown, at-Store, fold-Area, fold-Cleanup, fold-Each, fold-Effect, fold-Element, fold-If, fold-Load, fold-Memo, fold-Resource, fold-Shown, fold-Signal, fold-Store}
 use Rattle.component_meaning.specs.Computed.{read_of}
-use Rattle.component_meaning.proofs.Decided.{computed_component}
+use Rattle.component_meaning.proofs.Decided.{component_row}
 use Rattle.component_meaning.proofs.accepted.small_components.Goals as goal
 
 abbrev head_items : List Item
@@ -29,7 +29,7 @@ head_nodes : nodes_of head_items ≤ 4096
 head_nodes = let count = head_count in omega arith
 
 pub returns-clause-head : goal.returns-clause-head
-returns-clause-head c = computed_component (codes "component 1") head_component head_read head_nodes
+returns-clause-head c = component_row head_read head_nodes
 
 abbrev memo_items : List Item
 memo_items = item.Signal 0 1 (Number (pos 2)) ∷ item.Memo 1 2 (Binary op.Mul (Read 0) (Lit (Number (pos 3)))) ∷ item.Element 3 true [] (item.Shown 2 (Read 1) ∷ []) ∷ []
@@ -48,7 +48,7 @@ memo_nodes : nodes_of memo_items ≤ 4096
 memo_nodes = let count = memo_count in omega arith
 
 pub returns-clause-memo : goal.returns-clause-memo
-returns-clause-memo c = computed_component (codes "component 1\nsignal a = 2\nmemo b = a * 3\n<p>{b}</p>") memo_component memo_read memo_nodes
+returns-clause-memo c = component_row memo_read memo_nodes
 
 abbrev groups_items : List Item
 groups_items = item.Shown 0 (If (Binary op.Less (Lit (Number (pos 1))) (Binary op.Sub (Binary op.Sub (Lit (Number (pos 2))) (Lit (Number (pos 3)))) (Lit (Number (pos 4))))) (Lit Empty) (Binary op.Equal (Lit (Number (pos 5))) (Lit (Word 0)))) ∷ []
@@ -67,7 +67,7 @@ groups_nodes : nodes_of groups_items ≤ 4096
 groups_nodes = let count = groups_count in omega arith
 
 pub returns-clause-groups : goal.returns-clause-groups
-returns-clause-groups c = computed_component (codes "component 1 {if 1 lt 2 - 3 - 4 then empty else (5 == \"\")}") groups_component groups_read groups_nodes
+returns-clause-groups c = component_row groups_read groups_nodes
 
 abbrev products_items : List Item
 products_items = item.Shown 0 (Binary op.Add (Lit (Number (pos 1))) (Binary op.Rem (Binary op.Div (Binary op.Mul (Lit (Number (pos 2))) (Lit (Number (pos 3)))) (Lit (Number (pos 4)))) (Lit (Number (negsuc 4))))) ∷ []
@@ -86,7 +86,7 @@ products_nodes : nodes_of products_items ≤ 4096
 products_nodes = let count = products_count in omega arith
 
 pub returns-clause-products : goal.returns-clause-products
-returns-clause-products c = computed_component (codes "component 1 {1 + 2 * 3 / 4 % -5}") products_component products_read products_nodes
+returns-clause-products c = component_row products_read products_nodes
 
 abbrev attributes_items : List Item
 attributes_items = item.Element 1 true (attr.Bare 2 ∷ attr.Fixed 3 0 ∷ attr.Shown 4 0 (Lit (Word 5)) ∷ []) [] ∷ item.Element 6 false [] [] ∷ item.Element 7 false [] [] ∷ []
@@ -105,7 +105,7 @@ attributes_nodes : nodes_of attributes_items ≤ 4096
 attributes_nodes = let count = attributes_count in omega arith
 
 pub returns-clause-attributes : goal.returns-clause-attributes
-returns-clause-attributes c = computed_component (codes "component 1 <a-1 max disabled=\"\" title={\"x\"}></a-1><br/><area>") attributes_component attributes_read attributes_nodes
+returns-clause-attributes c = component_row attributes_read attributes_nodes
 
 abbrev load_items : List Item
 load_items = item.Resource 0 1 2 (Number (pos 1) ∷ Word 3 ∷ []) (Word 2 ∷ Number (negsuc 6) ∷ []) ∷ item.Load 1 4 0 (Lit (Number (pos 0))) ∷ item.Effect 3 5 (Read 1) ∷ []
@@ -124,7 +124,7 @@ load_nodes : nodes_of load_items ≤ 4096
 load_nodes = let count = load_count in omega arith
 
 pub returns-clause-load : goal.returns-clause-load
-returns-clause-load c = computed_component (codes "component 1 resource r after 2 { 1 => \"A\" \"1\" => -7 } load l = r(0) effect e = l") load_component load_read load_nodes
+returns-clause-load c = component_row load_read load_nodes
 
 abbrev rows_items : List Item
 rows_items = item.Store 0 1 2 (2 ∷ 3 ∷ []) (Number (pos 0) ∷ Empty ∷ []) ∷ item.Each 4 0 (item.If 5 (Read 3) (item.Shown 6 (Read 1) ∷ []) ∷ item.Memo 7 4 (Read 2) ∷ []) ∷ []
@@ -147,7 +147,7 @@ rows_nodes : nodes_of rows_items ≤ 4096
 rows_nodes = let count = rows_count in omega arith
 
 pub returns-clause-rows : goal.returns-clause-rows
-returns-clause-rows c = computed_component (codes "component 1 store s max 2 { t = 0 u = empty } each s { if row.u { {row.key} } memo m = row.t }") rows_component rows_read rows_nodes
+returns-clause-rows c = component_row rows_read rows_nodes
 
 abbrev areas_items : List Item
 areas_items = item.Area 0 1 1 (item.Cleanup 2 ∷ item.Area 1 3 2 (item.Signal 2 4 (Number (pos 1)) ∷ []) ∷ []) ∷ item.Element 5 true [] (item.Area 3 6 3 [] ∷ []) ∷ item.Area 4 7 4 (item.Signal 5 4 (Number (pos 2)) ∷ item.Shown 6 (Read 5) ∷ []) ∷ []
@@ -166,4 +166,4 @@ areas_nodes : nodes_of areas_items ≤ 4096
 areas_nodes = let count = areas_count in omega arith
 
 pub returns-clause-areas : goal.returns-clause-areas
-returns-clause-areas c = computed_component (codes "component 1 area a { cleanup \"bye\" area b { signal x = 1 } } <p>area c {}</p> area d { signal x = 2 {x} }") areas_component areas_read areas_nodes
+returns-clause-areas c = component_row areas_read areas_nodes

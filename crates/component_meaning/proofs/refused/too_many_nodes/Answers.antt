@@ -7,7 +7,7 @@ use Rattle.component_items.specs.declared.component.Item.TheVariants as item
 use Rattle.component_items.specs.Counts.{item_maximum, item_nodes, maximum_in, nodes_of}
 use Rattle.component_items.proofs.FoldLemmas.{fold-Signal, fold-Store, fold-Each, fold-Shown, at-Store, at-Each, at-Shown}
 use Rattle.component_meaning.specs.Computed.{read_of}
-use Rattle.component_meaning.proofs.Decided.{computed_nodes}
+use Rattle.component_meaning.proofs.Decided.{large_row}
 use Rattle.component_meaning.proofs.refused.too_many_nodes.Goals as goal
 
 abbrev values_items : List Item
@@ -27,7 +27,7 @@ values_many : 4096 < nodes_of values_items
 values_many = let count = values_count in omega arith
 
 pub returns-clause-values : goal.returns-clause-values
-returns-clause-values c = computed_nodes (codes "component 1\nstore s max 4096 { t = 0 }\nsignal a = 1") values_component values_read values_many
+returns-clause-values c = large_row values_read values_many
 
 abbrev rows_items : List Item
 rows_items = item.Store 0 1 2049 [] [] ∷ item.Each 2 0 (item.Shown 3 (Read 1) ∷ item.Shown 4 (Lit (Number (pos 1))) ∷ []) ∷ []
@@ -50,4 +50,4 @@ rows_many : 4096 < nodes_of rows_items
 rows_many = let count = rows_count in omega arith
 
 pub returns-clause-rows : goal.returns-clause-rows
-returns-clause-rows c = computed_nodes (codes "component 1\nstore s max 2049 {} each s { {row.key} {1} }") rows_component rows_read rows_many
+returns-clause-rows c = large_row rows_read rows_many
