@@ -75,13 +75,3 @@ pub computed_refusal : (component : Component) (names : Names) (first_line : ℕ
 computed_refusal component names first_line bytes why same is =
     subst (λ n. IsRefused (script_for component.texts n first_line) bytes why) (sym same)
     (read_refusal component.texts names first_line bytes why (outcome (script_for component.texts names first_line) bytes) refl is)
-
--- ---- the same for worked rows
-
-pub refused_row : {component : Component} {names : Names} {first_line : ℕ} {bytes : List ℕ} {why : Refusal} → names_of component.items ≡ names → refusal_of component.texts names first_line bytes ≡ Some why
-    → IsNoScript component first_line bytes why
-refused_row {component = component} {names = names} {first_line = first_line} {bytes = bytes} {why = why} same is = computed_refusal component names first_line bytes why same is
-
-pub script_row : {component : Component} {names : Names} {first_line : ℕ} {bytes : List ℕ} {r : Read} → names_of component.items ≡ names → read_of component.texts names first_line bytes ≡ Some r
-    → IsScript component first_line bytes r.phases r.texts
-script_row {component = component} {names = names} {first_line = first_line} {bytes = bytes} {r = r} same is = computed_script component names first_line bytes r same is

@@ -1,9 +1,13 @@
--- The names of the component of the worked rows.
-use Rattle.std.proofs.Common.{◌≡◌, [], ◌∷◌, pos}
+-- The names of the component of the worked rows, and how a row is shown.
+use Rattle.std.proofs.Common.{◌≡◌, ℕ, List, Some, [], ◌∷◌, pos}
 use Rattle.values.specs.declared.code.Code.TheVariants.{Empty, Number}
 use Rattle.component_items.proofs.FoldLemmas.{at-Signal, at-Memo, at-Store, at-Area, at-Element, at-If, at-Effect}
 use Rattle.script_meaning.specs.Names.{Names, none, one, a_signal, a_memo, a_store, an_area, another, item_names, names_of}
-use Rattle.script_meaning.specs.Worked.{worked_items}
+use Rattle.component_items.specs.declared.refusal.Refusal.{Refusal}
+use Rattle.script_meaning.specs.Computed.{Read, read_of, refusal_of}
+use Rattle.script_meaning.specs.Script.{IsScript, IsNoScript}
+use Rattle.script_meaning.specs.Worked.{worked_texts, worked_items, worked_component}
+use Rattle.script_meaning.proofs.Decided.{computed_refusal, computed_script}
 
 abbrev pub worked_names : Names
 worked_names =
@@ -13,3 +17,9 @@ worked_names =
 pub named : names_of worked_items ≡ worked_names
 unfolding item_names
 named = simp (at-Signal, at-Memo, at-Store, at-Area, at-Element, at-If, at-Effect)
+
+pub refused_row : {bytes : List ℕ} {why : Refusal} → refusal_of worked_texts worked_names 1 bytes ≡ Some why → IsNoScript worked_component 1 bytes why
+refused_row {bytes = bytes} {why = why} is = computed_refusal worked_component worked_names 1 bytes why named is
+
+pub script_row : {bytes : List ℕ} {r : Read} → read_of worked_texts worked_names 1 bytes ≡ Some r → IsScript worked_component 1 bytes r.phases r.texts
+script_row {bytes = bytes} {r = r} is = computed_script worked_component worked_names 1 bytes r named is

@@ -1,14 +1,10 @@
-use Rattle.std.proofs.Common.{◌≡◌, ◌++◌, List, [], ◌∷◌, Some, None, codes, pos, negsuc, refl}
+use Rattle.std.proofs.Common.{◌≡◌, ◌++◌, [], ◌∷◌, Some, None, codes, pos, negsuc, refl}
 use Rattle.values.specs.declared.code.Code.TheVariants.{Empty, Number, Word}
 use Rattle.store_fields.specs.declared.edit.EditOp.TheVariants.{Insert, Remove, Move}
-use Rattle.component_items.specs.declared.refusal.Count.TheVariants as Count
-use Rattle.component_items.specs.declared.refusal.Refusal.TheVariants.{Bad}
-use Rattle.component_items.specs.declared.refusal.Why.TheVariants as Why
 use Rattle.script_items.specs.declared.operation.ScriptOp.TheVariants as op
-use Rattle.script_meaning.specs.Computed.{Read, read_of, refusal_of}
-use Rattle.script_meaning.specs.Worked.{worked_texts, worked_component}
-use Rattle.script_meaning.proofs.Decided.{refused_row, script_row}
-use Rattle.script_meaning.proofs.WorkedNames.{worked_names, named}
+use Rattle.script_meaning.specs.Computed.{Read, read_of}
+use Rattle.script_meaning.specs.Worked.{worked_texts}
+use Rattle.script_meaning.proofs.WorkedNames.{worked_names, script_row}
 use Rattle.script_meaning.proofs.worked.accepted_scripts.Goals as goal
 
 abbrev nothing_means : Read
@@ -18,7 +14,7 @@ nothing_read : read_of worked_texts worked_names 1 (codes "") ≡ Some nothing_m
 nothing_read = refl
 
 pub returns-clause-nothing : goal.returns-clause-nothing
-returns-clause-nothing c = script_row named nothing_read
+returns-clause-nothing c = script_row nothing_read
 
 abbrev phase_means : Read
 phase_means = record { phases = [] ∷ []; texts = worked_texts }
@@ -27,7 +23,7 @@ phase_read : read_of worked_texts worked_names 1 (codes "phase") ≡ Some phase_
 phase_read = refl
 
 pub returns-clause-phase : goal.returns-clause-phase
-returns-clause-phase c = script_row named phase_read
+returns-clause-phase c = script_row phase_read
 
 abbrev lane_means : Read
 lane_means = record { phases = ([] ∷ []) ∷ []; texts = worked_texts }
@@ -36,7 +32,7 @@ lane_read : read_of worked_texts worked_names 1 (codes "phase lane") ≡ Some la
 lane_read = refl
 
 pub returns-clause-lane : goal.returns-clause-lane
-returns-clause-lane c = script_row named lane_read
+returns-clause-lane c = script_row lane_read
 
 abbrev sixteen_lanes_means : Read
 sixteen_lanes_means = record { phases = ([] ∷ [] ∷ [] ∷ [] ∷ [] ∷ [] ∷ [] ∷ [] ∷ [] ∷ [] ∷ [] ∷ [] ∷ [] ∷ [] ∷ [] ∷ [] ∷ []) ∷ []; texts = worked_texts }
@@ -45,7 +41,7 @@ sixteen_lanes_read : read_of worked_texts worked_names 1 (codes "phase lane lane
 sixteen_lanes_read = refl
 
 pub returns-clause-sixteen_lanes : goal.returns-clause-sixteen_lanes
-returns-clause-sixteen_lanes c = script_row named sixteen_lanes_read
+returns-clause-sixteen_lanes c = script_row sixteen_lanes_read
 
 abbrev sixty_four_phases_means : Read
 sixty_four_phases_means = record { phases = [] ∷ [] ∷ [] ∷ [] ∷ [] ∷ [] ∷ [] ∷ [] ∷ [] ∷ [] ∷ [] ∷ [] ∷ [] ∷ [] ∷ [] ∷ [] ∷ [] ∷ [] ∷ [] ∷ [] ∷ [] ∷ [] ∷ [] ∷ [] ∷ [] ∷ [] ∷ [] ∷ [] ∷ [] ∷ [] ∷ [] ∷ [] ∷ [] ∷ [] ∷ [] ∷ [] ∷ [] ∷ [] ∷ [] ∷ [] ∷ [] ∷ [] ∷ [] ∷ [] ∷ [] ∷ [] ∷ [] ∷ [] ∷ [] ∷ [] ∷ [] ∷ [] ∷ [] ∷ [] ∷ [] ∷ [] ∷ [] ∷ [] ∷ [] ∷ [] ∷ [] ∷ [] ∷ [] ∷ [] ∷ []; texts = worked_texts }
@@ -54,7 +50,7 @@ sixty_four_phases_read : read_of worked_texts worked_names 1 (codes "phase phase
 sixty_four_phases_read = refl
 
 pub returns-clause-sixty_four_phases : goal.returns-clause-sixty_four_phases
-returns-clause-sixty_four_phases c = script_row named sixty_four_phases_read
+returns-clause-sixty_four_phases c = script_row sixty_four_phases_read
 
 abbrev values_means : Read
 values_means = record { phases = ((op.Set 0 None (Number (pos 5)) ∷ op.Get 1 None ∷ op.Pump ∷ op.Set 7 None (Word 13) ∷ op.Get 9 None ∷ op.Dispose 2 ∷ []) ∷ (op.Set 5 (Some (Number (pos 1))) Empty ∷ op.Get 4 (Some (Word 14)) ∷ []) ∷ []) ∷ []; texts = (worked_texts ++ codes "q" ∷ codes "k" ∷ []) }
@@ -63,7 +59,7 @@ values_read : read_of worked_texts worked_names 1 (codes "phase lane set a = 5 g
 values_read = refl
 
 pub returns-clause-values : goal.returns-clause-values
-returns-clause-values c = script_row named values_read
+returns-clause-values c = script_row values_read
 
 abbrev edits_means : Read
 edits_means = record { phases = ((op.Change (record { store = 2; op = Insert (Number (pos 7)) (Number (pos 0) ∷ Number (pos 3) ∷ []) 4294967295 }) ∷ op.Change (record { store = 2; op = Insert (Number (negsuc 0)) (Number (pos 0) ∷ Empty ∷ []) 0 }) ∷ op.Change (record { store = 2; op = Remove (Number (pos 7)) }) ∷ op.Change (record { store = 2; op = Move (Number (pos 7)) 1 }) ∷ []) ∷ []) ∷ []; texts = worked_texts }
@@ -72,4 +68,4 @@ edits_read : read_of worked_texts worked_names 1 (codes "phase lane insert s 7 {
 edits_read = refl
 
 pub returns-clause-edits : goal.returns-clause-edits
-returns-clause-edits c = script_row named edits_read
+returns-clause-edits c = script_row edits_read
