@@ -25,8 +25,9 @@ pub struct State {
     pub texts: Texts,
     /// The names that are seen, the last one first.
     pub seen: Scope,
-    /// The names and the ids of the items that are open, the innermost first.
+    /// The names of the items that are open, by their indices in the table, the innermost first.
     pub names: Stack<u32>,
+    /// The ids of the items that are open, the innermost first.
     pub ids: Stack<u32>,
     /// The tags of the elements that are open, the innermost first.
     pub tags: Stack<u32>,
@@ -53,7 +54,7 @@ const MAX_WHOLE: u32 = 2147483647;
 
 const MAX_NEGATED: u32 = 2147483648;
 
-/// The refusal of a token.
+/// The refusal of a token for a reason, at the token's place.
 pub fn refused(why: Why, token: Token) -> Refusal
     ensures { result ≡ spec.refused why token }
 {
