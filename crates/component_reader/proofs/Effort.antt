@@ -7,13 +7,13 @@ use Rattle.grammar.specs.Table.{production_at}
 use Rattle.grammar.proofs.Tests.{all_at}
 use Rattle.text_lexer.specs.Cursor.{Cursor}
 use Rattle.text_lexer.specs.Tokens.{Lexed}
-use Rattle.component_reader.specs.declared.table.Rule.{Rule}
-use Rattle.component_reader.specs.declared.table.Terminal.{Terminal}
-use Rattle.component_reader.specs.declared.table.Action.{Action}
-use Rattle.component_reader.specs.Grammar.{Symbols, productions}
-use Rattle.component_reader.specs.Ahead.{all_rules}
+use Rattle.first_grammar.specs.declared.table.Rule.{Rule}
+use Rattle.first_grammar.specs.declared.table.Terminal.{Terminal}
+use Rattle.first_grammar.specs.declared.table.Action.{Action}
+use Rattle.first_grammar.specs.Grammar.{Symbols, productions}
+use Rattle.first_grammar.specs.Ahead.{all_rules}
 use Rattle.component_reader.specs.Reading.{cost, cost_of, most, waits, left, effort}
-use Rattle.component_reader.proofs.Right.{rule_at}
+use Rattle.first_grammar.proofs.Right.{rule_at}
 
 abbrev shrinks : Rule → Symbols → Bool
 shrinks r [] = nat_lt 0 (cost r)

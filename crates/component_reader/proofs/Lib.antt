@@ -1,4 +1,3 @@
-pub mod Right
 pub mod Given
 pub mod Effort
 pub mod Steps

@@ -9,15 +9,15 @@ use Rattle.text_lexer.proofs.TokenLists.{IsFront, front, is_front, ArePlaced, sa
 use Rattle.component_items.specs.declared.component.Component.{Component}
 use Rattle.component_items.specs.declared.component.Item.{Item}
 use Rattle.component_items.specs.declared.refusal.Refusal.{Refusal}
-use Rattle.component_reader.specs.declared.state.State.{State}
-use Rattle.component_reader.specs.declared.table.Rule.TheVariants as rule
-use Rattle.component_reader.specs.declared.table.Terminal.TheVariants as terminal
-use Rattle.component_reader.specs.Grammar.{table, text}
-use Rattle.component_reader.specs.Ahead.{lookahead}
-use Rattle.component_reader.specs.State.{start}
-use Rattle.component_reader.specs.Meaning.{semantics, top_list}
+use Rattle.first_state.specs.declared.state.State.{State}
+use Rattle.first_grammar.specs.declared.table.Rule.TheVariants as rule
+use Rattle.first_grammar.specs.declared.table.Terminal.TheVariants as terminal
+use Rattle.first_grammar.specs.Grammar.{table, text}
+use Rattle.first_grammar.specs.Ahead.{lookahead}
+use Rattle.first_state.specs.State.{start}
+use Rattle.first_state.specs.Meaning.{semantics, top_list}
 use Rattle.component_reader.specs.Component.{IsComponent, IsFirstBadIn}
-use Rattle.component_reader.proofs.Right.{is_right}
+use Rattle.first_grammar.proofs.Right.{is_right}
 use Rattle.component_reader.proofs.Steps.{fits_text}
 
 closes : ClosesWith terminal.End text

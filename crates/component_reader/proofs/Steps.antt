@@ -25,23 +25,23 @@ use Rattle.text_lexer.specs.Tokens.{Lexed, IsGiven, past, is_last, Leads, here}
 use Rattle.component_items.specs.declared.component.Component.{Component}
 use Rattle.component_items.specs.declared.refusal.Refusal.{Refusal}
 use Rattle.component_items.specs.declared.refusal.Refusal.TheVariants as f
-use Rattle.component_reader.specs.declared.state.State.{State}
-use Rattle.component_reader.specs.declared.table.Action.{Action}
-use Rattle.component_reader.specs.declared.table.Action.TheVariants as action
-use Rattle.component_reader.specs.declared.table.Kind.{Kind}
-use Rattle.component_reader.specs.declared.table.Kind.TheVariants as kind
-use Rattle.component_reader.specs.declared.table.Rule.{Rule}
-use Rattle.component_reader.specs.declared.table.Rule.TheVariants as rule
-use Rattle.component_reader.specs.declared.table.Terminal.{Terminal}
-use Rattle.component_reader.specs.declared.table.Terminal.TheVariants as terminal
-use Rattle.component_reader.specs.Grammar.{Symbols, kind_of, kind_of_token, number_of, takes_reserved, matches, productions, table, text}
-use Rattle.component_reader.specs.Ahead.{lookahead, choice, is_among, all_rules}
-use Rattle.component_reader.specs.State.{start}
-use Rattle.component_reader.specs.Meaning.{semantics, accept, perform, effect, fails, order, unexpected, top_list}
-use Rattle.component_reader.specs.Accepts.{Accepts}
+use Rattle.first_state.specs.declared.state.State.{State}
+use Rattle.first_grammar.specs.declared.table.Action.{Action}
+use Rattle.first_grammar.specs.declared.table.Action.TheVariants as action
+use Rattle.first_grammar.specs.declared.table.Kind.{Kind}
+use Rattle.first_grammar.specs.declared.table.Kind.TheVariants as kind
+use Rattle.first_grammar.specs.declared.table.Rule.{Rule}
+use Rattle.first_grammar.specs.declared.table.Rule.TheVariants as rule
+use Rattle.first_grammar.specs.declared.table.Terminal.{Terminal}
+use Rattle.first_grammar.specs.declared.table.Terminal.TheVariants as terminal
+use Rattle.first_grammar.specs.Grammar.{Symbols, kind_of, kind_of_token, number_of, takes_reserved, matches, productions, table, text}
+use Rattle.first_grammar.specs.Ahead.{lookahead, choice, is_among, all_rules}
+use Rattle.first_state.specs.State.{start}
+use Rattle.first_state.specs.Meaning.{semantics, accept, perform, effect, fails, order, unexpected, top_list}
+use Rattle.first_state.specs.Accepts.{Accepts}
 use Rattle.component_reader.specs.Reading.{IsReading, has_no_end, is_end_terminal, left}
 use Rattle.component_reader.specs.Component.{IsText, IsComponent, IsFirstBadIn, IsRefusedIn}
-use Rattle.component_reader.proofs.Right.{is_right, rule_at}
+use Rattle.first_grammar.proofs.Right.{is_right, rule_at}
 use Rattle.text_lexer.proofs.TokenLists.{leads_on, text_past, IsFront, front, is_front}
 
 abbrev last : Symbols

@@ -9,10 +9,10 @@ use Rattle.component_items.specs.declared.component.Component.{Component}
 use Rattle.component_items.specs.declared.refusal.Refusal.{Refusal}
 use Rattle.component_items.specs.declared.refusal.Refusal.TheVariants.{Bad, NoMemory}
 use Rattle.component_items.specs.declared.refusal.Why.TheVariants.{Unexpected}
-use Rattle.component_reader.specs.declared.state.State.{State}
-use Rattle.component_reader.specs.Grammar.{table, text}
-use Rattle.component_reader.specs.State.{start}
-use Rattle.component_reader.specs.Meaning.{semantics, top_list}
+use Rattle.first_state.specs.declared.state.State.{State}
+use Rattle.first_grammar.specs.Grammar.{table, text}
+use Rattle.first_state.specs.State.{start}
+use Rattle.first_state.specs.Meaning.{semantics, top_list}
 
 -- The tokens of the bytes are a text of the grammar, and mean the component.
 pub record IsText (bytes : List ℕ) (component : Component) : Type 0 where

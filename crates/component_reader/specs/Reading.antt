@@ -4,15 +4,15 @@ use Rattle.grammar.specs.declared.symbol.Symbol.TheVariants as s
 use Rattle.grammar.specs.Stands.{Stands}
 use Rattle.text_lexer.specs.Cursor.{Cursor, start_of}
 use Rattle.text_lexer.specs.Tokens.{Lexed, IsGiven, Leads, past, is_last}
-use Rattle.component_reader.specs.declared.state.State.{State}
-use Rattle.component_reader.specs.declared.table.Rule.{Rule}
-use Rattle.component_reader.specs.declared.table.Rule.TheVariants as rule
-use Rattle.component_reader.specs.declared.table.Terminal.{Terminal}
-use Rattle.component_reader.specs.declared.table.Terminal.TheVariants as terminal
-use Rattle.component_reader.specs.Grammar.{Symbols, table, text}
-use Rattle.component_reader.specs.Ahead.{lookahead}
-use Rattle.component_reader.specs.State.{start}
-use Rattle.component_reader.specs.Meaning.{semantics}
+use Rattle.first_state.specs.declared.state.State.{State}
+use Rattle.first_grammar.specs.declared.table.Rule.{Rule}
+use Rattle.first_grammar.specs.declared.table.Rule.TheVariants as rule
+use Rattle.first_grammar.specs.declared.table.Terminal.{Terminal}
+use Rattle.first_grammar.specs.declared.table.Terminal.TheVariants as terminal
+use Rattle.first_grammar.specs.Grammar.{Symbols, table, text}
+use Rattle.first_grammar.specs.Ahead.{lookahead}
+use Rattle.first_state.specs.State.{start}
+use Rattle.first_state.specs.Meaning.{semantics}
 
 abbrev pub is_end_terminal : Terminal → Bool
 is_end_terminal terminal.End = true

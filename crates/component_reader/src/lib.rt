@@ -1,11 +1,8 @@
-//! The component text: what it is made of, what it means, and its reader.
+//! The reader of component texts of the first grammar, and which bytes are the text of which component.
 #![tactic(auto)]
 
 mod laws;
 mod reader;
-mod scope;
-mod state;
-mod table;
 
 pub use component_items::{Attr, Attrs, Component, Count, Item, Items, Place, Refusal, Why};
 pub use laws::{never_both, one_component, one_refusal};

@@ -4,11 +4,11 @@ ghost use Rattle.std.specs.Prelude.{◌≡◌, ◌≤◌, ◌<◌, ◌∷◌, []
 ghost use Rattle.grammar.specs.declared.symbol.Symbol as symbol;
 ghost use Rattle.component_reader.specs.Reading.{IsReading, effort};
 ghost use Rattle.component_reader.specs.Component.{IsText, IsComponent, IsRefused, IsRefusedIn};
-ghost use Rattle.component_reader.specs.Meaning as spec;
+ghost use Rattle.first_state.specs.Meaning as spec;
 
-use crate::state::{State, refused};
-use crate::table::{Action, Rule, Terminal, kind_of, matches_kind, production};
 use component_items::{Component, Place, Refusal, Why};
+use first_grammar::{Action, Rule, Terminal, kind_of, matches_kind, production};
+use first_state::{State, refused};
 use grammar::{Stack, Symbol};
 use std::alloc::{AllocError, Global};
 use std::str;

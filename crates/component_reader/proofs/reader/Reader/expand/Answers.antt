@@ -1,8 +1,8 @@
 use Rattle.std.proofs.Common.{◌≡◌, ◌++◌, Some, OnOk, Ok, Err, Result, sym, ◌∙◌, ap, subst}
 use Rattle.std.specs.declared.alloc.AllocError.{AllocError}
 use Rattle.grammar.specs.Table.{production_at}
-use Rattle.component_reader.specs.Grammar.{productions, kind_of}
-use Rattle.component_reader.specs.Ahead.{choice}
+use Rattle.first_grammar.specs.Grammar.{productions, kind_of}
+use Rattle.first_grammar.specs.Ahead.{choice}
 use Rattle.component_reader.specs.Reading.{IsReading}
 use Rattle.component_reader.proofs.Steps.{at_rule}
 use Rattle.component_reader.proofs.reader.Reader.expand.Goals as goal

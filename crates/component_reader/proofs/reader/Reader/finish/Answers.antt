@@ -1,7 +1,7 @@
 use Rattle.std.proofs.Common.{◌≡◌, [], true, false, Ok, sym, ◌∙◌, ap, subst}
 use Rattle.std.proofs.lemmas.Result.{err_from_is_err_and}
-use Rattle.component_reader.specs.declared.table.Terminal.TheVariants.{End}
-use Rattle.component_reader.specs.Grammar.{matches, kind_of}
+use Rattle.first_grammar.specs.declared.table.Terminal.TheVariants.{End}
+use Rattle.first_grammar.specs.Grammar.{matches, kind_of}
 use Rattle.component_reader.specs.Reading.{IsReading}
 use Rattle.component_reader.specs.Component.{IsRefusedIn}
 use Rattle.component_reader.proofs.Steps.{at_end, bad_end, bad_end_check, no_match, refused_in}

@@ -2,7 +2,7 @@ use Rattle.std.proofs.Common.{◌≡◌, ◌∷◌, [], sym, ◌∙◌, ap, subs
 use Rattle.grammar.specs.declared.symbol.Symbol.TheVariants as s
 use Rattle.text_lexer.specs.Cursor.{Cursor, start_of}
 use Rattle.text_lexer.specs.Tokens.{IsGiven, past}
-use Rattle.component_reader.specs.declared.table.Rule.TheVariants.{Component}
+use Rattle.first_grammar.specs.declared.table.Rule.TheVariants.{Component}
 use Rattle.component_reader.specs.Reading.{IsReading}
 use Rattle.component_reader.proofs.Given.{gives}
 use Rattle.component_reader.proofs.Steps.{at_start}

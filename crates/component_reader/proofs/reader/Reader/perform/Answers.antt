@@ -1,6 +1,6 @@
 use Rattle.std.proofs.Common.{◌≡◌, OnOk, Ok, Err, Result, sym, subst}
 use Rattle.std.specs.declared.alloc.AllocError.{AllocError}
-use Rattle.component_reader.specs.Meaning.{perform}
+use Rattle.first_state.specs.Meaning.{perform}
 use Rattle.component_reader.specs.Reading.{IsReading}
 use Rattle.component_reader.proofs.Steps.{at_action}
 use Rattle.component_reader.proofs.reader.Reader.perform.Goals as goal

@@ -1,7 +1,7 @@
 use Rattle.std.proofs.Common.{◌≡◌, ◌∷◌, ◌<◌, true, false, Ok, sym, ◌∙◌, ap, subst}
 use Rattle.std.proofs.lemmas.Result.{err_from_is_err_and}
 use Rattle.grammar.specs.declared.symbol.Symbol.TheVariants.{Terminal}
-use Rattle.component_reader.specs.Grammar.{matches, kind_of}
+use Rattle.first_grammar.specs.Grammar.{matches, kind_of}
 use Rattle.component_reader.specs.Reading.{IsReading, effort}
 use Rattle.component_reader.specs.Component.{IsRefusedIn}
 use Rattle.component_reader.proofs.Given.{gives}

@@ -5,8 +5,8 @@ use Rattle.component_items.specs.declared.refusal.Refusal.{Refusal}
 use Rattle.component_items.specs.declared.refusal.Refusal.TheVariants.{Bad, NoMemory}
 use Rattle.component_items.specs.declared.refusal.Why.TheVariants.{TooLarge}
 use Rattle.component_items.specs.declared.refusal.Count.TheVariants.{Texts}
-use Rattle.component_reader.specs.declared.state.State.{State}
-use Rattle.component_reader.specs.Meaning.{refused}
+use Rattle.first_state.specs.declared.state.State.{State}
+use Rattle.first_state.specs.Meaning.{refused}
 
 -- the answer and the state that it leaves are the outcome, but for want of memory
 abbrev pub Accepts : {A : Type 0} → Result State Refusal → Result A Refusal → State → Type 0

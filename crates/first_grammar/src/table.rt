@@ -3,8 +3,8 @@
 
 ghost use Rattle.std.specs.Prelude.{◌≡◌, Some};
 ghost use Rattle.grammar.specs.Table.{production_at};
-ghost use Rattle.component_reader.specs.Grammar as spec;
-ghost use Rattle.component_reader.specs.Ahead as ahead;
+ghost use Rattle.first_grammar.specs.Grammar as spec;
+ghost use Rattle.first_grammar.specs.Ahead as ahead;
 
 use grammar::Symbol;
 use text_lexer::{BadToken, Mark, Reserved, Token, TokenKind};

@@ -23,8 +23,8 @@ pub struct Scope {
 
 impl Model for Scope {
     ghost use Rattle.std.specs.Prelude.{◌≡◌, ℕ, List, None, slice_index_or};
-    ghost use Rattle.component_reader.specs.declared.scope.Declared.{Declared};
-    ghost use Rattle.component_reader.specs.Scope.{id_of};
+    ghost use Rattle.first_state.specs.declared.scope.Declared.{Declared};
+    ghost use Rattle.first_state.specs.Scope.{id_of};
 
     ghost Value = { List Declared };
 
@@ -46,7 +46,7 @@ fn grow(by_name: &mut Vec<Option<u32>>, len: usize) -> Result<(), AllocError>
 
 impl Scope {
     ghost use Rattle.std.specs.Prelude.{◌≡◌, [], ◌∷◌, OnOk, OnErr};
-    ghost use Rattle.component_reader.specs.Scope.{id_of};
+    ghost use Rattle.first_state.specs.Scope.{id_of};
 
     /// No names.
     pub fn new(alloc: Global) -> Scope

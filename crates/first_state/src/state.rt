@@ -3,15 +3,15 @@
 ghost use Rattle.std.specs.Prelude.{◌≡◌, ◌≤◌, ◌<◌, ◌^◌, ◌+◌, true, false, [], ◌∷◌, ◌++◌, IfOk, OnOk, IfErr, SomeIff, nat_lt, length, Some, Ok, Err};
 ghost use Rattle.values.specs.Texts.{index_of, with_text};
 ghost use Rattle.text_lexer.specs.Token.{IsTokenOf};
-ghost use Rattle.component_reader.specs.Grammar.{matches, kind_of_token};
-ghost use Rattle.component_reader.specs.Scope.{id_of};
-ghost use Rattle.component_reader.specs.Meaning as spec;
-ghost use Rattle.component_reader.specs.State.{start};
-ghost use Rattle.component_reader.specs.Accepts.{Accepts, RefusesText};
+ghost use Rattle.first_grammar.specs.Grammar.{matches, kind_of_token};
+ghost use Rattle.first_state.specs.Scope.{id_of};
+ghost use Rattle.first_state.specs.Meaning as spec;
+ghost use Rattle.first_state.specs.State.{start};
+ghost use Rattle.first_state.specs.Accepts.{Accepts, RefusesText};
 
 use crate::scope::Scope;
-use crate::table::{Action, Terminal};
 use component_items::{Attrs, Count, Item, Items, Place, Refusal, Why};
+use first_grammar::{Action, Terminal};
 use grammar::Stack;
 use sqlite_items::Boxed;
 use std::alloc::{AllocError, Global};
@@ -25,8 +25,9 @@ pub struct State {
     pub texts: Texts,
     /// The names that are seen, the last one first.
     pub seen: Scope,
-    /// The names and the ids of the items that are open, the innermost first.
+    /// The names of the items that are open, by their indices in the table, the innermost first.
     pub names: Stack<u32>,
+    /// The ids of the items that are open, the innermost first.
     pub ids: Stack<u32>,
     /// The tags of the elements that are open, the innermost first.
     pub tags: Stack<u32>,
@@ -53,7 +54,7 @@ const MAX_WHOLE: u32 = 2147483647;
 
 const MAX_NEGATED: u32 = 2147483648;
 
-/// The refusal of a token.
+/// The refusal of a token for a reason, at the token's place.
 pub fn refused(why: Why, token: Token) -> Refusal
     ensures { result ≡ spec.refused why token }
 {

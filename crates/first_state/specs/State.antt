@@ -1,7 +1,7 @@
 -- The state before the first token.
 use Rattle.std.specs.Prelude.{[], ◌∷◌}
 use Rattle.values.specs.declared.code.Code.TheVariants.{Empty}
-use Rattle.component_reader.specs.declared.state.State.{State}
+use Rattle.first_state.specs.declared.state.State.{State}
 
 abbrev pub start : State
 start = record {

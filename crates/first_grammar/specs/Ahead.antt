@@ -2,13 +2,13 @@
 use Rattle.std.specs.Prelude.{ℕ, ◌==◌, Bool, true, false, List, [], ◌∷◌}
 use Rattle.std.specs.List.{list_any}
 use Rattle.grammar.specs.Lookahead.{Lookahead}
-use Rattle.component_reader.specs.declared.table.Kind.{Kind}
-use Rattle.component_reader.specs.declared.table.Kind.TheVariants as kind
-use Rattle.component_reader.specs.declared.table.Terminal.{Terminal}
-use Rattle.component_reader.specs.declared.table.Terminal.TheVariants as terminal
-use Rattle.component_reader.specs.declared.table.Rule.{Rule}
-use Rattle.component_reader.specs.declared.table.Rule.TheVariants as rule
-use Rattle.component_reader.specs.Grammar.{number_of, kind_for}
+use Rattle.first_grammar.specs.declared.table.Kind.{Kind}
+use Rattle.first_grammar.specs.declared.table.Kind.TheVariants as kind
+use Rattle.first_grammar.specs.declared.table.Terminal.{Terminal}
+use Rattle.first_grammar.specs.declared.table.Terminal.TheVariants as terminal
+use Rattle.first_grammar.specs.declared.table.Rule.{Rule}
+use Rattle.first_grammar.specs.declared.table.Rule.TheVariants as rule
+use Rattle.first_grammar.specs.Grammar.{number_of, kind_for}
 
 -- the kinds that the rule may begin with
 abbrev pub first : Rule → List Kind

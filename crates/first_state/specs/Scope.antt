@@ -1,6 +1,6 @@
 -- The names that are seen at a place.
 use Rattle.std.specs.Prelude.{ℕ, ◌==◌, Option, Some, None, if◌then◌else◌, List, [], ◌∷◌}
-use Rattle.component_reader.specs.declared.scope.Declared.{Declared}
+use Rattle.first_state.specs.declared.scope.Declared.{Declared}
 
 -- the id that a name was last declared with
 abbrev pub id_of : ℕ → List Declared → Option ℕ

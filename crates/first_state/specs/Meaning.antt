@@ -19,15 +19,15 @@ use Rattle.component_items.specs.declared.refusal.Why.TheVariants as why
 use Rattle.component_items.specs.declared.refusal.Count.TheVariants as count
 use Rattle.component_items.specs.declared.refusal.Refusal.{Refusal}
 use Rattle.component_items.specs.declared.refusal.Refusal.TheVariants.{Bad}
-use Rattle.component_reader.specs.declared.table.Kind.{Kind}
-use Rattle.component_reader.specs.declared.table.Terminal.{Terminal}
-use Rattle.component_reader.specs.declared.table.Terminal.TheVariants as terminal
-use Rattle.component_reader.specs.declared.table.Action.{Action}
-use Rattle.component_reader.specs.declared.table.Action.TheVariants as action
+use Rattle.first_grammar.specs.declared.table.Kind.{Kind}
+use Rattle.first_grammar.specs.declared.table.Terminal.{Terminal}
+use Rattle.first_grammar.specs.declared.table.Terminal.TheVariants as terminal
+use Rattle.first_grammar.specs.declared.table.Action.{Action}
+use Rattle.first_grammar.specs.declared.table.Action.TheVariants as action
 use Rattle.text_lexer.specs.Tokens.{Lexed}
-use Rattle.component_reader.specs.Grammar.{kind_of}
-use Rattle.component_reader.specs.Scope.{id_of}
-use Rattle.component_reader.specs.declared.state.State.{State}
+use Rattle.first_grammar.specs.Grammar.{kind_of}
+use Rattle.first_state.specs.Scope.{id_of}
+use Rattle.first_state.specs.declared.state.State.{State}
 
 -- ---- stacks, whose top is the first of the list; an empty one has a top that no text reaches
 

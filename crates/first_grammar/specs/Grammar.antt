@@ -10,14 +10,14 @@ use Rattle.text_lexer.specs.declared.token.Mark.{Mark}
 use Rattle.text_lexer.specs.declared.token.Mark.TheVariants as mark
 use Rattle.text_lexer.specs.declared.token.Reserved.{Reserved}
 use Rattle.text_lexer.specs.declared.token.Reserved.TheVariants as word
-use Rattle.component_reader.specs.declared.table.Kind.{Kind}
-use Rattle.component_reader.specs.declared.table.Kind.TheVariants as kind
-use Rattle.component_reader.specs.declared.table.Terminal.{Terminal}
-use Rattle.component_reader.specs.declared.table.Terminal.TheVariants as terminal
-use Rattle.component_reader.specs.declared.table.Rule.{Rule}
-use Rattle.component_reader.specs.declared.table.Rule.TheVariants as rule
-use Rattle.component_reader.specs.declared.table.Action.{Action}
-use Rattle.component_reader.specs.declared.table.Action.TheVariants as action
+use Rattle.first_grammar.specs.declared.table.Kind.{Kind}
+use Rattle.first_grammar.specs.declared.table.Kind.TheVariants as kind
+use Rattle.first_grammar.specs.declared.table.Terminal.{Terminal}
+use Rattle.first_grammar.specs.declared.table.Terminal.TheVariants as terminal
+use Rattle.first_grammar.specs.declared.table.Rule.{Rule}
+use Rattle.first_grammar.specs.declared.table.Rule.TheVariants as rule
+use Rattle.first_grammar.specs.declared.table.Action.{Action}
+use Rattle.first_grammar.specs.declared.table.Action.TheVariants as action
 
 abbrev pub Symbols : Type 0
 Symbols = List (Symbol Terminal Rule Action)

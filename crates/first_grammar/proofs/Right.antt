@@ -5,14 +5,14 @@ use Rattle.grammar.specs.Table.{production_at}
 use Rattle.grammar.specs.Lookahead.{is_predictive}
 use Rattle.grammar.specs.Machine.{IsRight}
 use Rattle.grammar.proofs.Tests.{right_from}
-use Rattle.component_reader.specs.declared.table.Kind.{Kind}
-use Rattle.component_reader.specs.declared.table.Kind.TheVariants as kind
-use Rattle.component_reader.specs.declared.table.Terminal.{Terminal}
-use Rattle.component_reader.specs.declared.table.Terminal.TheVariants as terminal
-use Rattle.component_reader.specs.declared.table.Rule.{Rule}
-use Rattle.component_reader.specs.declared.table.Rule.TheVariants as rule
-use Rattle.component_reader.specs.Grammar.{table}
-use Rattle.component_reader.specs.Ahead.{lookahead, all_terminals, all_rules, all_kinds}
+use Rattle.first_grammar.specs.declared.table.Kind.{Kind}
+use Rattle.first_grammar.specs.declared.table.Kind.TheVariants as kind
+use Rattle.first_grammar.specs.declared.table.Terminal.{Terminal}
+use Rattle.first_grammar.specs.declared.table.Terminal.TheVariants as terminal
+use Rattle.first_grammar.specs.declared.table.Rule.{Rule}
+use Rattle.first_grammar.specs.declared.table.Rule.TheVariants as rule
+use Rattle.first_grammar.specs.Grammar.{table}
+use Rattle.first_grammar.specs.Ahead.{lookahead, all_terminals, all_rules, all_kinds}
 
 passes : is_predictive table lookahead all_rules all_kinds ≡ true
 passes = refl
