@@ -1,1 +1,4 @@
 pub mod Decided
+pub mod KeptNumbers
+pub mod KeptTokens
+pub mod KeptIds
