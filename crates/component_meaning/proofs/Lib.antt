@@ -2,3 +2,5 @@ pub mod Decided
 pub mod KeptNumbers
 pub mod KeptTokens
 pub mod KeptIds
+pub mod KeptMore
+pub mod KeptTexts
