@@ -278,7 +278,7 @@ perform_kept action.MakeLiteral a h = h
 perform_kept (action.MakeBinary op) a h = h
 perform_kept action.MakeIf a h = h
 
-start_kept : AreNumbered start
+pub start_kept : AreNumbered start
 start_kept = record {
   ids = record { count = 0; listed = refl; comes_next = refl };
   owners = record { count = 0; listed = refl; comes_next = refl };
@@ -286,7 +286,7 @@ start_kept = record {
 
 -- ---- whole texts
 
-keeps : (bytes : List ℕ) → Keeps table (semantics bytes) AreNumbered
+pub keeps : (bytes : List ℕ) → Keeps table (semantics bytes) AreNumbered
 keeps bytes = record {
   terminal = λ w a b x has takes h.
       let is = accepted bytes w a x.token x.next b takes in

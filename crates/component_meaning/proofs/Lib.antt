@@ -4,3 +4,5 @@ pub mod KeptTokens
 pub mod KeptIds
 pub mod KeptMore
 pub mod KeptTexts
+pub mod KeptAlong
+pub mod KeptOwners

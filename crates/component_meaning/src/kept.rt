@@ -1,9 +1,9 @@
 //! What each component that a text means keeps: it follows from what each token and each action does.
 
-ghost use Rattle.std.specs.Prelude.{◌≡◌, ℕ, true, length, List};
+ghost use Rattle.std.specs.Prelude.{◌≡◌, ℕ, ◌≤◌, true, length, List};
 ghost use Rattle.std.specs.List.{list_all};
 ghost use Rattle.component_items.specs.declared.component.Component.{Component as ComponentValue};
-ghost use Rattle.component_items.specs.Ids.{IsNumbered};
+ghost use Rattle.component_items.specs.Ids.{owners_in, IsNumbered};
 ghost use Rattle.component_items.specs.Kept.{item_has_texts};
 ghost use Rattle.component_meaning.specs.Component.{IsComponent};
 
@@ -15,4 +15,9 @@ pub fn ids_are_numbered()
 /// Each text of an item is in the component's table.
 pub fn texts_are_in_the_table()
     ensures { (bytes : List ℕ) (component : ComponentValue) → IsComponent bytes component → list_all (item_has_texts (length component.texts)) component.items ≡ true }
+{}
+
+/// There are at most 1023 owners besides the top.
+pub fn owners_are_few()
+    ensures { (bytes : List ℕ) (component : ComponentValue) → IsComponent bytes component → length (owners_in component.items) ≤ 1023 }
 {}
