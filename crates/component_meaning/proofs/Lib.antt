@@ -6,3 +6,4 @@ pub mod KeptMore
 pub mod KeptTexts
 pub mod KeptAlong
 pub mod KeptOwners
+pub mod KeptPlaces

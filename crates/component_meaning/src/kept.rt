@@ -4,7 +4,7 @@ ghost use Rattle.std.specs.Prelude.{◌≡◌, ℕ, ◌≤◌, true, length, Lis
 ghost use Rattle.std.specs.List.{list_all};
 ghost use Rattle.component_items.specs.declared.component.Component.{Component as ComponentValue};
 ghost use Rattle.component_items.specs.Ids.{owners_in, IsNumbered};
-ghost use Rattle.component_items.specs.Kept.{item_has_texts};
+ghost use Rattle.component_items.specs.Kept.{standing_at_top, item_stands, item_has_texts};
 ghost use Rattle.component_meaning.specs.Component.{IsComponent};
 
 /// Ids are numbered from 0 in text order, and owners from 1 on.
@@ -20,4 +20,9 @@ pub fn texts_are_in_the_table()
 /// There are at most 1023 owners besides the top.
 pub fn owners_are_few()
     ensures { (bytes : List ℕ) (component : ComponentValue) → IsComponent bytes component → length (owners_in component.items) ≤ 1023 }
+{}
+
+/// Each item stands where it may.
+pub fn items_stand_where_they_may()
+    ensures { (bytes : List ℕ) (component : ComponentValue) → IsComponent bytes component → list_all (λ item. item_stands item standing_at_top) component.items ≡ true }
 {}
