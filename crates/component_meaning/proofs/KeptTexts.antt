@@ -140,7 +140,7 @@ pub record AreInTable (a : State) : Type 0 where
   pub made : Made a
   pub reading : Reading a
 
-last_has : {A : Type 0} (p : A → Bool) (xs : List A) (x : A) → list_all p xs ≡ true → p x ≡ true → list_all p (xs ++ x ∷ []) ≡ true
+pub last_has : {A : Type 0} (p : A → Bool) (xs : List A) (x : A) → list_all p xs ≡ true → p x ≡ true → list_all p (xs ++ x ∷ []) ≡ true
 last_has p xs x all has = list_all-append p xs (x ∷ []) ∙ and_both _ _ all (and_both _ _ has refl)
 
 -- the same in a longer table
@@ -360,7 +360,7 @@ effect_kept text terminal.NumberLiteral a x h = record { made = h.made; reading 
 effect_kept text terminal.NegatedLiteral a x h = record { made = h.made; reading = with_literal_read h.reading (negated_in text x) refl }
 effect_kept text _ a x h = record { made = h.made; reading = h.reading }
 
-start_kept : AreInTable start
+pub start_kept : AreInTable start
 start_kept = record {
   made = record { items_have = refl; opened_have = refl };
   reading = record { some = omega arith; named = refl; wrote = refl; fields_have = refl; keys_have = refl; values_have = refl; literal_has = refl; operands_have = refl };
@@ -368,7 +368,7 @@ start_kept = record {
 
 -- ---- whole texts
 
-keeps : (bytes : List ℕ) → Keeps table (semantics bytes) AreInTable
+pub keeps : (bytes : List ℕ) → Keeps table (semantics bytes) AreInTable
 keeps bytes = record {
   terminal = λ w a b x has takes h.
       let is = accepted bytes w a x.token x.next b takes in

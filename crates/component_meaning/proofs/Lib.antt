@@ -7,3 +7,5 @@ pub mod KeptTexts
 pub mod KeptAlong
 pub mod KeptOwners
 pub mod KeptPlaces
+pub mod KeptKeys
+pub mod KeptShapes
