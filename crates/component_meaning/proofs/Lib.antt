@@ -1,3 +1,13 @@
 pub mod Closers
 pub mod Decided
 pub mod Either
+pub mod KeptNumbers
+pub mod KeptTokens
+pub mod KeptIds
+pub mod KeptMore
+pub mod KeptTexts
+pub mod KeptAlong
+pub mod KeptOwners
+pub mod KeptPlaces
+pub mod KeptKeys
+pub mod KeptShapes
