@@ -11,3 +11,9 @@ pub mod KeptOwners
 pub mod KeptPlaces
 pub mod KeptKeys
 pub mod KeptShapes
+pub mod KeptNames
+pub mod KeptSight
+pub mod KeptFalling
+pub mod KeptSeen
+pub mod KeptUses
+pub mod KeptAll

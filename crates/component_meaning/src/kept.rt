@@ -4,7 +4,7 @@ ghost use Rattle.std.specs.Prelude.{◌≡◌, ℕ, ◌≤◌, true, length, Lis
 ghost use Rattle.std.specs.List.{list_all};
 ghost use Rattle.component_items.specs.declared.component.Component.{Component as ComponentValue};
 ghost use Rattle.component_items.specs.Ids.{owners_in, IsNumbered};
-ghost use Rattle.component_items.specs.Kept.{standing_at_top, item_stands, item_has_texts, item_has_shape};
+ghost use Rattle.component_items.specs.Kept.{standing_at_top, item_stands, nothing_seen, items_see, item_has_texts, item_has_shape, IsKept};
 ghost use Rattle.component_meaning.specs.Component.{IsComponent};
 
 /// Ids are numbered from 0 in text order, and owners from 1 on.
@@ -30,4 +30,14 @@ pub fn items_stand_where_they_may()
 /// Stores and resources have one value for each field and key; a store has few rows, and a resource distinct keys.
 pub fn stores_and_resources_have_their_shape()
     ensures { (bytes : List ℕ) (component : ComponentValue) → IsComponent bytes component → list_all item_has_shape component.items ≡ true }
+{}
+
+/// Each item names what is seen before it.
+pub fn names_are_of_what_is_seen()
+    ensures { (bytes : List ℕ) (component : ComponentValue) → IsComponent bytes component → items_see component.items nothing_seen ≡ true }
+{}
+
+/// All that a component keeps, together.
+pub fn components_are_kept()
+    ensures { (bytes : List ℕ) (component : ComponentValue) → IsComponent bytes component → IsKept component }
 {}
