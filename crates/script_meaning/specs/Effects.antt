@@ -14,7 +14,7 @@ use Rattle.script_items.specs.declared.operation.ScriptOp.{ScriptOp}
 use Rattle.script_items.specs.declared.operation.ScriptOp.TheVariants as op
 use Rattle.script_items.specs.Script.{with_phase, with_lane, with_op}
 use Rattle.component_meaning.specs.Names.{value_in, content_in, number_in, negated_in, number_with}
-use Rattle.script_meaning.specs.Names.{Named, nothing, a_signal, a_memo, a_load, a_store, an_area, Names, Found}
+use Rattle.script_meaning.specs.Names.{Named, nothing, a_signal, a_memo, a_load, a_store, an_area, Found}
 use Rattle.script_meaning.specs.State.{State, end_of_rows}
 use Rattle.script_meaning.specs.Checks.{found_as, field_of}
 
@@ -69,7 +69,7 @@ effect text terminal.NumberLiteral a x = record a { literal = number_in text x }
 effect text terminal.NegatedLiteral a x = record a { literal = negated_in text x }
 effect text _ a x = a
 
--- ---- actions, for a component with these names at its top
+-- ---- actions
 
 abbrev pub owner_of : Named → ℕ
 owner_of (an_area owner) = owner
@@ -88,14 +88,14 @@ key_of a = unwrap_or a.key Empty
 abbrev pub edited : EditOp → State → State
 edited e a = done (op.Change (record { store = id_of a.named; op = e })) a
 
-abbrev pub perform : Names → Action → State → State
-perform top action.BeginPath a = record a { named = nothing; names = top; key = None }
-perform top action.BeginEntries a = record a { values = starts_of a.named; given = []; place = end_of_rows }
-perform top action.AddValue a = record a { values = slice_set a.values a.field a.literal }
-perform top action.MakeSet a = done (op.Set (id_of a.named) a.key a.literal) a
-perform top action.MakeGet a = done (op.Get (id_of a.named) a.key) a
-perform top action.MakePump a = done op.Pump a
-perform top action.MakeDispose a = done (op.Dispose (owner_of a.named)) a
-perform top action.MakeInsert a = edited (Insert (key_of a) a.values a.place) a
-perform top action.MakeRemove a = edited (Remove (key_of a)) a
-perform top action.MakeMove a = edited (Move (key_of a) a.place) a
+abbrev pub perform : Action → State → State
+perform action.BeginPath a = record a { named = nothing; names = a.top; key = None }
+perform action.BeginEntries a = record a { values = starts_of a.named; given = []; place = end_of_rows }
+perform action.AddValue a = record a { values = slice_set a.values a.field a.literal }
+perform action.MakeSet a = done (op.Set (id_of a.named) a.key a.literal) a
+perform action.MakeGet a = done (op.Get (id_of a.named) a.key) a
+perform action.MakePump a = done op.Pump a
+perform action.MakeDispose a = done (op.Dispose (owner_of a.named)) a
+perform action.MakeInsert a = edited (Insert (key_of a) a.values a.place) a
+perform action.MakeRemove a = edited (Remove (key_of a)) a
+perform action.MakeMove a = edited (Move (key_of a) a.place) a

@@ -12,7 +12,6 @@ use Rattle.component_items.specs.declared.refusal.Refusal.{Refusal}
 use Rattle.component_items.specs.declared.refusal.Refusal.TheVariants.{Bad}
 use Rattle.component_meaning.specs.Meaning.{unexpected}
 use Rattle.component_meaning.specs.Names.{place_of}
-use Rattle.script_meaning.specs.Names.{Names}
 use Rattle.script_meaning.specs.State.{State}
 use Rattle.script_meaning.specs.Checks.{Check, why_of, failed}
 use Rattle.script_meaning.specs.Effects.{effect, perform}
@@ -26,11 +25,10 @@ abbrev pub accept_token : List ℕ → Terminal → State → Lexed → Lexed �
 accept_token text t a (Ok x) next = judged text t a x (failed text t a x next)
 accept_token text t a (Err bad) next = Err (unexpected (Err bad))
 
--- for a component with these names at its top
-abbrev pub semantics : Names → List ℕ → Semantics Terminal Action Seen (WithNext Lexed) State Refusal
-semantics top text = record {
+abbrev pub semantics : List ℕ → Semantics Terminal Action Seen (WithNext Lexed) State Refusal
+semantics text = record {
   kind = λ x. kind_of text x.token;
   accept = λ t a x. accept_token text t a x.token x.next;
-  perform = perform top;
+  perform = perform;
   unexpected = λ x. unexpected x.token;
 }

@@ -15,7 +15,7 @@ use Rattle.script_meaning.specs.Meaning.{semantics}
 
 -- the language of script texts for a component with these texts and these names at its top
 abbrev pub script_for : List (List ℕ) → Names → ℕ → Language Terminal Rule Action State
-script_for texts names first_line = record { table = table; lookahead = lookahead; text = text; semantics = semantics names; start = start_for texts names; first_line = first_line }
+script_for texts names first_line = record { table = table; lookahead = lookahead; text = text; semantics = semantics; start = start_for texts names; first_line = first_line }
 
 abbrev pub script_text : Component → ℕ → Language Terminal Rule Action State
 script_text component first_line = script_for component.texts (names_of component.items) first_line

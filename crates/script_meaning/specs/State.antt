@@ -10,6 +10,8 @@ pub record State : Type 0 where
   pub texts : List (List ℕ)
   -- the phases so far, each a list of lanes, each a list of operations
   pub phases : List (List (List ScriptOp))
+  -- the names at the top of the component, which stay
+  pub top : Names
   -- of the path that is read: what it names so far, and the names directly in that area, or at the top
   pub named : Named
   pub names : Names
@@ -32,6 +34,7 @@ abbrev pub start_for : List (List ℕ) → Names → State
 start_for texts names = record {
   texts = texts;
   phases = [];
+  top = names;
   named = nothing;
   names = names;
   key = None;
