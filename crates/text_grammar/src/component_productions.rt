@@ -14,9 +14,9 @@ use values::Op;
 /// What a rule of a component text stands for at one place, in the order of the text.
 pub type Production = &'static [Symbol<Terminal, Rule, Action>];
 
-/// The production of the rule that one token of lookahead chooses. A reader that meets the rule in front of the
-/// token puts the production's symbols on its stack in place of the rule. `docs/LANGUAGE.md` has the productions
-/// as a person reads them.
+/// The production of the rule that one token of lookahead chooses. A reader that meets the rule puts its symbols
+/// on the stack in the rule's place. Every token chooses one, also one that no text has there: that shows at the
+/// next terminal, which such a token does not match. `docs/LANGUAGE.md` has the productions as a person reads them.
 pub fn production(rule: Rule, token: Seen) -> Production
     ensures { production_at (spec.productions rule) (ahead.choice rule token) ≡ Some result.now }
 {
