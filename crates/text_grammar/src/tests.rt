@@ -87,9 +87,9 @@ fn mark(mark: Mark) -> Seen {
     apart(Kind::Mark(mark))
 }
 
-// Terminals and rules as docs/LANGUAGE.md has them, with a place for each action.
+// The productions below have their terminals and rules as docs/LANGUAGE.md has them, and a place for each action.
 #[test]
-fn one_token_chooses_the_production_of_a_component(rt: HostRuntime) {
+fn an_item_is_chosen_by_its_first_token(rt: HostRuntime) {
     let signal = component::production(CR::Items, word(Reserved::Signal));
     assert!(rt;
         matches!(
@@ -117,11 +117,10 @@ fn one_token_chooses_the_production_of_a_component(rt: HostRuntime) {
             "{token:?}"
         );
     }
-    let key = component::production(CR::Key, mark(Mark::Minus));
-    assert!(rt;
-        matches!(key, [Terminal(C::KeyMinus), Terminal(C::NegatedKey)]),
-        "{key:?}"
-    );
+}
+
+#[test]
+fn a_void_tag_goes_on_where_a_dash_touches_it(rt: HostRuntime) {
     let dash = component::production(CR::VoidTagMore, touching(Kind::Mark(Mark::Minus)));
     assert!(rt;
         matches!(
@@ -149,25 +148,25 @@ fn one_token_chooses_the_production_of_a_component(rt: HostRuntime) {
         ),
         "{void:?}"
     );
-    let closer = component::production(CR::ElementEnd, apart(Kind::End));
-    assert!(rt; matches!(closer, [Terminal(C::Closer)]), "{closer:?}");
-    let less = component::production(CR::TestMore, word(Reserved::Lt));
+}
+
+#[test]
+fn a_minus_makes_a_key_negative(rt: HostRuntime) {
+    let key = component::production(CR::Key, mark(Mark::Minus));
     assert!(rt;
-        matches!(less, [Terminal(C::LessThan), Rule(CR::Sum), Action(_)]),
-        "{less:?}"
+        matches!(key, [Terminal(C::KeyMinus), Terminal(C::NegatedKey)]),
+        "{key:?}"
     );
 }
 
 #[test]
-fn one_token_chooses_the_production_of_a_script(rt: HostRuntime) {
-    let phase = script::production(SR::Phases, word(Reserved::Phase));
-    assert!(rt;
-        matches!(
-            phase,
-            [Terminal(S::Phase), Rule(SR::Lanes), Rule(SR::Phases)]
-        ),
-        "{phase:?}"
-    );
+fn an_element_that_is_open_at_the_end_has_a_closer(rt: HostRuntime) {
+    let unclosed = component::production(CR::ElementEnd, apart(Kind::End));
+    assert!(rt; matches!(unclosed, [Terminal(C::Closer)]), "{unclosed:?}");
+}
+
+#[test]
+fn an_operation_is_chosen_by_its_first_word(rt: HostRuntime) {
     let moving = script::production(SR::Operations, word(Reserved::Move));
     assert!(rt;
         matches!(
@@ -196,10 +195,14 @@ fn one_token_chooses_the_production_of_a_script(rt: HostRuntime) {
             "{token:?}"
         );
     }
-    let field = script::production(SR::SetPathMore, mark(Mark::OpenBracket));
+}
+
+#[test]
+fn a_path_ends_with_the_field_of_a_row(rt: HostRuntime) {
+    let row = script::production(SR::SetPathMore, mark(Mark::OpenBracket));
     assert!(rt;
         matches!(
-            field,
+            row,
             [
                 Terminal(S::OpenBracket),
                 Rule(SR::Key),
@@ -208,11 +211,6 @@ fn one_token_chooses_the_production_of_a_script(rt: HostRuntime) {
                 Terminal(S::RowField)
             ]
         ),
-        "{field:?}"
-    );
-    let place = script::production(SR::InsertPlace, word(Reserved::At));
-    assert!(rt;
-        matches!(place, [Terminal(S::At), Terminal(S::PlaceNumber)]),
-        "{place:?}"
+        "{row:?}"
     );
 }
