@@ -14,8 +14,9 @@ use text_lexer::{Mark, Reserved};
 pub type Production = &'static [Symbol<Terminal, Rule, Action>];
 
 /// The production of the rule that one token of lookahead chooses. A reader that meets the rule puts its symbols
-/// on the stack in the rule's place. Every token chooses one, also one that no text has there: that shows at the
-/// next terminal, which such a token does not match. `docs/LANGUAGE.md` has the productions as a person reads them.
+/// on the stack in the rule's place. Every token chooses one, also one that fits none of them: that shows at the
+/// next terminal, for which such a token may not stand. `docs/LANGUAGE.md` has the productions as a person reads
+/// them.
 pub fn production(rule: Rule, token: Seen) -> Production
     ensures { production_at (spec.productions rule) (ahead.choice rule token) ≡ Some result.now }
 {
