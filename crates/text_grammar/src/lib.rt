@@ -3,9 +3,11 @@
 #![tactic(auto)]
 
 pub mod component;
+mod component_productions;
 mod kind;
 mod laws;
 pub mod script;
+mod script_productions;
 
 pub use kind::{Class, Kind, Seen, kind_of};
 pub use laws::{

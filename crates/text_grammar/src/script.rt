@@ -5,6 +5,7 @@ ghost use Rattle.std.specs.Prelude.{◌≡◌};
 ghost use Rattle.text_grammar.specs.Script as spec;
 
 use crate::kind::{Class, Kind, Seen};
+pub use crate::script_productions::{Production, production};
 use text_lexer::{Mark, Reserved};
 
 /// A token at its place in a script text.

@@ -1,11 +1,12 @@
 //! Worked rows.
 
-use crate::component::{self, Terminal as C};
-use crate::kind_of;
-use crate::script::{self, Terminal as S};
+use crate::component::{self, Rule as CR, Terminal as C};
+use crate::script::{self, Rule as SR, Terminal as S};
+use crate::{Kind, Seen, kind_of};
+use grammar::Symbol::{Action, Rule, Terminal};
 use std::process::Abort;
 use std::test::Fail;
-use text_lexer::Lexer;
+use text_lexer::{Lexer, Mark, Reserved};
 
 #[test]
 fn tokens_of_a_component_stand_for_its_terminals(rt: HostRuntime) -> Result<(), Fail> {
@@ -62,4 +63,154 @@ fn tokens_of_a_script_stand_for_its_terminals(rt: HostRuntime) -> Result<(), Fai
         assert!(rt; !script::matches(S::To, seen), "{seen:?}");
     }
     Ok(())
+}
+
+fn apart(kind: Kind) -> Seen {
+    Seen {
+        kind,
+        touches: false,
+    }
+}
+
+fn touching(kind: Kind) -> Seen {
+    Seen {
+        kind,
+        touches: true,
+    }
+}
+
+fn word(word: Reserved) -> Seen {
+    apart(Kind::Reserved(word))
+}
+
+fn mark(mark: Mark) -> Seen {
+    apart(Kind::Mark(mark))
+}
+
+// The productions below have their terminals and rules as docs/LANGUAGE.md has them, and a place for each action.
+#[test]
+fn an_item_is_chosen_by_its_first_token(rt: HostRuntime) {
+    let signal = component::production(CR::Items, word(Reserved::Signal));
+    assert!(rt;
+        matches!(
+            signal,
+            [
+                Terminal(C::Signal),
+                Terminal(C::NewName),
+                Terminal(C::Assign),
+                Action(_),
+                Rule(CR::Literal),
+                Action(_),
+                Rule(CR::Items)
+            ]
+        ),
+        "{signal:?}"
+    );
+    for token in [
+        mark(Mark::CloseBrace),
+        mark(Mark::ClosingTag),
+        apart(Kind::End),
+    ] {
+        assert_eq!(rt;
+            component::production(CR::Items, token).len(),
+            0,
+            "{token:?}"
+        );
+    }
+}
+
+#[test]
+fn a_void_tag_goes_on_where_a_dash_touches_it(rt: HostRuntime) {
+    let dash = component::production(CR::VoidTagMore, touching(Kind::Mark(Mark::Minus)));
+    assert!(rt;
+        matches!(
+            dash,
+            [
+                Terminal(C::Dash),
+                Terminal(C::OpenTagPart),
+                Rule(CR::OpenTagMore),
+                Action(_),
+                Rule(CR::ElementRest)
+            ]
+        ),
+        "{dash:?}"
+    );
+    let void = component::production(CR::VoidTagMore, mark(Mark::Minus));
+    assert!(rt;
+        matches!(
+            void,
+            [
+                Action(_),
+                Rule(CR::Attributes),
+                Rule(CR::VoidEnd),
+                Action(_)
+            ]
+        ),
+        "{void:?}"
+    );
+}
+
+#[test]
+fn a_minus_makes_a_key_negative(rt: HostRuntime) {
+    let key = component::production(CR::Key, mark(Mark::Minus));
+    assert!(rt;
+        matches!(key, [Terminal(C::KeyMinus), Terminal(C::NegatedKey)]),
+        "{key:?}"
+    );
+}
+
+#[test]
+fn an_element_that_is_open_at_the_end_has_a_closer(rt: HostRuntime) {
+    let unclosed = component::production(CR::ElementEnd, apart(Kind::End));
+    assert!(rt; matches!(unclosed, [Terminal(C::Closer)]), "{unclosed:?}");
+}
+
+#[test]
+fn an_operation_is_chosen_by_its_first_word(rt: HostRuntime) {
+    let moving = script::production(SR::Operations, word(Reserved::Move));
+    assert!(rt;
+        matches!(
+            moving,
+            [
+                Terminal(S::Move),
+                Action(_),
+                Rule(SR::StorePath),
+                Rule(SR::Key),
+                Terminal(S::To),
+                Terminal(S::PlaceNumber),
+                Action(_),
+                Rule(SR::Operations)
+            ]
+        ),
+        "{moving:?}"
+    );
+    for token in [
+        word(Reserved::Lane),
+        word(Reserved::Phase),
+        apart(Kind::End),
+    ] {
+        assert_eq!(rt;
+            script::production(SR::Operations, token).len(),
+            0,
+            "{token:?}"
+        );
+    }
+}
+
+#[test]
+fn a_path_ends_with_the_field_of_a_row(rt: HostRuntime) {
+    let row = script::production(SR::SetPathMore, mark(Mark::OpenBracket));
+    assert!(rt;
+        matches!(
+            row,
+            [
+                Terminal(S::OpenBracket),
+                Rule(SR::Key),
+                Terminal(S::CloseBracket),
+                Terminal(S::Dot),
+                Terminal(S::RowField)
+            ]
+        ),
+        "{row:?}"
+    );
 }
