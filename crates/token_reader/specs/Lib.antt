@@ -1,0 +1,4 @@
+pub mod Rules
+pub mod Effort
+pub mod Reading
+pub mod Refused
