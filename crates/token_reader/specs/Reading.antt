@@ -1,9 +1,8 @@
 -- Where the reader stands.
-use Rattle.std.specs.Prelude.{◌≡◌, ℕ, suc, ◌+◌, ◌-◌, ◌≤◌, true, List, [], ◌∷◌, ◌++◌, length, get_or, if◌then◌else◌, Option, Some, None}
+use Rattle.std.specs.Prelude.{◌≡◌, ◌⊎◌, ℕ, suc, ◌+◌, ◌-◌, ◌≤◌, true, not, ◌||◌, List, [], ◌∷◌, ◌++◌, length, get_or, if◌then◌else◌, Option, Some, None}
 use Rattle.grammar.specs.declared.symbol.Symbol.{Symbol}
 use Rattle.grammar.specs.declared.symbol.Symbol.TheVariants.{Terminal, Rule, Action}
 use Rattle.grammar.specs.Ahead.{WithNext}
-use Rattle.grammar.specs.Ends.{IsLast}
 use Rattle.grammar.specs.Stands.{Stands}
 use Rattle.grammar.specs.Table.{production_at}
 use Rattle.text_lexer.specs.Cursor.{Cursor, start_of}
@@ -18,6 +17,13 @@ paired [] x = []
 paired (y ∷ ys) x = record { token = y; next = get_or ys 0 x } ∷ paired ys x
 
 module _ {W R D S : Type 0} (rules : Rules W R D S) where
+  -- no terminal of the stack takes a token of the kind, but for one that stands last
+  abbrev pub Closes : Seen → List (Symbol W R D) → Type 0
+  Closes k [] = Unit {0}
+  Closes k (Terminal w ∷ rest) = (rest ≡ []) ⊎ (((not (rules.table.matches w k) || rules.blocked w) ≡ true) × Closes k rest)
+  Closes k (Rule r ∷ rest) = Closes k rest
+  Closes k (Action d ∷ rest) = Closes k rest
+
   -- From the first stack and state on, actions and the productions that the next token chooses lead to these. No token
   -- is taken.
   pub data Settles (bytes : List ℕ) (next : Seen) (from : List (Symbol W R D)) (first : S) : List (Symbol W R D) → S → Type 0 where
@@ -38,7 +44,7 @@ module _ {W R D S : Type 0} (rules : Rules W R D S) where
     pub moved : now ≡ past (past at token) next
     pub stands : Stands rules.table rules.lookahead (rules.semantics bytes) rules.text first (paired before token) (record { token = token; next = next }) stack state
     pub few : rules.size state ≤ rules.size first + at.at
-    pub last : (x : Lexed) → is_last x ≡ true → IsLast rules.table rules.blocked rules.end (kind_of bytes x) stack
+    pub closes : (x : Lexed) → is_last x ≡ true → Closes (kind_of bytes x) stack
 
 -- the terminal that was found on top, or none where the stack is empty
 abbrev pub on_top : {W R D : Type 0} → Option W → List (Symbol W R D) → List (Symbol W R D)
