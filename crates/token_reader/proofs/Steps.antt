@@ -1,5 +1,5 @@
 -- The steps of the reader.
-use Rattle.std.proofs.Common.{◌≡◌, ◌⊎◌, ℕ, suc, ◌+◌, ◌<◌, ◌≤◌, Bool, true, false, not, ◌||◌, List, [], ◌∷◌, ◌++◌, length, Some, Ok, Err, IfOk, IfErr, OnErr, Result, inl, inr, refl, sym, ◌∙◌, ap, subst, arith, append_assoc}
+use Rattle.std.proofs.Common.{◌≡◌, ◌⊎◌, ℕ, suc, ◌+◌, ◌<◌, ◌≤◌, Bool, true, false, not, ◌||◌, List, [], ◌∷◌, ◌++◌, length, Option, Some, None, Ok, Err, IfOk, IfErr, OnErr, Result, inl, inr, refl, sym, ◌∙◌, ap, subst, arith, append_assoc}
 use Rattle.std.specs.Str.{IsUtf8}
 use Rattle.std.specs.List.{list_all}
 use Rattle.std.proofs.lemmas.Bool.{false≢true}
@@ -28,7 +28,7 @@ use Rattle.component_items.specs.declared.refusal.Refusal.{Refusal}
 use Rattle.component_items.specs.declared.refusal.Refusal.TheVariants.{Bad, NoMemory}
 use Rattle.part_meaning.specs.Part.{IsReadTo, IsRefused, bad_token}
 use Rattle.token_reader.specs.Rules.{Rules, IsReadable, Accepts, language, unexpected}
-use Rattle.token_reader.specs.Reading.{paired, Closes, Settles, here as settled_here, rule, action, IsReading, left}
+use Rattle.token_reader.specs.Reading.{paired, Closes, Settles, here as settled_here, rule, action, IsReading, left, on_top}
 use Rattle.token_reader.specs.Refused.{IsRefusedOr}
 use Rattle.token_reader.proofs.Tokens.{goes_on, again, led_text, led_within, paired_on, whole_pairs, IsAmong, last_listed, last_among, inner_among, last_pairs}
 
@@ -164,6 +164,25 @@ module _ {W R D S : Type 0} (rules : Rules W R D S) (ok : IsReadable rules) wher
         let size = ap length (led_text r.leads) in
         omega arith
 
+    -- what is on top of the stack
+    pub found : (now : Cursor) (x y : Lexed) (stack out : Symbols) (a b : S) (seen : Seen) (top : Option W) (w : W) → Reading now x y stack a
+        → seen ≡ kind_of now.text x → ((bs : List ℕ) → Settles rules bs seen stack a (on_top top out) b) → top ≡ Some w → Reading now x y (Terminal w ∷ out) b
+    found now x y stack out a b seen top w r is go some =
+        settled now x y r (subst (λ k. Settles rules bytes k stack a (Terminal w ∷ out) b) (is ∙ ap (λ l. kind_of l x) (text_of now x y stack a r))
+        (subst (λ t. Settles rules bytes seen stack a (on_top t out) b) some (go bytes)))
+
+    pub none_found : (now : Cursor) (x y : Lexed) (stack out : Symbols) (a b : S) (seen : Seen) (top : Option W) → Reading now x y stack a
+        → seen ≡ kind_of now.text x → ((bs : List ℕ) → Settles rules bs seen stack a (on_top top out) b) → top ≡ None → Reading now x y [] b
+    none_found now x y stack out a b seen top r is go none =
+        settled now x y r (subst (λ k. Settles rules bytes k stack a [] b) (is ∙ ap (λ l. kind_of l x) (text_of now x y stack a r))
+        (subst (λ t. Settles rules bytes seen stack a (on_top t out) b) none (go bytes)))
+
+    -- what a test of the token found
+    pub sees_at : (now : Cursor) (x y : Lexed) (stack : Symbols) (a : S) (seen : Seen) (w : W) (m b : Bool) → Reading now x y stack a
+        → seen ≡ kind_of now.text x → m ≡ rules.table.matches w seen → m ≡ b → rules.table.matches w (kind_of bytes x) ≡ b
+    sees_at now x y stack a seen w m b r is tests answers =
+        ap (λ k. rules.table.matches w k) (sym (is ∙ ap (λ l. kind_of l x) (text_of now x y stack a r))) ∙ (sym tests ∙ answers)
+
     -- the token may stand for the terminal, as the semantics see it
     sees_it : (x y : Lexed) (w : W) (b : Bool) → rules.table.matches w (kind_of bytes x) ≡ b → rules.table.matches w ((rules.semantics bytes).kind (pair x y)) ≡ b
     sees_it x y w b sees = subst (λ k. rules.table.matches w k ≡ b) (sym (ok.kinds bytes (pair x y))) sees
@@ -215,13 +234,9 @@ module _ {W R D S : Type 0} (rules : Rules W R D S) (ok : IsReadable rules) wher
         → rules.table.matches w (kind_of bytes x) ≡ true → (rules.semantics bytes).accept w a (pair x y) ≡ Ok b → is_last x ≡ true → stack ≡ []
     rest_empty now x y w stack a b r sees took last = by_case (r.closes x last)
       where
-        apart : (rules.table.matches w (kind_of bytes x) ≡ false) ⊎ (rules.blocked w ≡ true) → ⊥
-        apart (inl other) = cc
-        apart (inr shut) = ok.blocks bytes w a b (pair x y) shut took
-
         split : (not (rules.table.matches w (kind_of bytes x)) ≡ true) ⊎ (rules.blocked w ≡ true) → ⊥
         split (inl other) = never (rules.table.matches w (kind_of bytes x)) other sees
-        split (inr shut) = apart (inr shut)
+        split (inr shut) = ok.blocks bytes w a b (pair x y) shut took
 
         by_case : Closes rules (kind_of bytes x) (Terminal w ∷ stack) → stack ≡ []
         by_case (inl none) = none
