@@ -68,7 +68,7 @@ module _ {W R D S : Type 0} (rules : Rules W R D S) where
 
     -- a production costs less than its rule
     cheaper : (r : R) (i : ℕ) (body : Symbols) → production_at (rules.table.productions r) i ≡ Some body → ahead empty (cost rules) body < cost rules r
-    unfolding cost_at, cost
+    unfolding cost_at cost
     cheaper r i body at =
         let goes = all_at (down (rules.level r)) (rules.table.productions r) i body (ok.down r) at in
         let same = same_ahead (cost_at rules (rules.level r)) (cost rules) (rules.level r)

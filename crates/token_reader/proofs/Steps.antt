@@ -137,7 +137,7 @@ module _ {W R D S : Type 0} (rules : Rules W R D S) (ok : IsReadable rules) wher
           (r.closes last is);
     }
 
-    pub settled : {stack out : Symbols} {a b : S} (now : Cursor) (x y : Lexed) → Reading now x y stack a → Settles rules bytes (kind_of bytes x) stack a out b → Reading now x y out b
+    pub settled : {stack : Symbols} {a : S} (now : Cursor) (x y : Lexed) → Reading now x y stack a → {out : Symbols} {b : S} → Settles rules bytes (kind_of bytes x) stack a out b → Reading now x y out b
     settled now x y r settled_here = r
     settled now x y r (rule {r = q} {body = body} {rest = rest} {a = a} go chosen) = at_rule now x y q body rest a (settled now x y r go) chosen
     settled now x y r (action {d = d} {rest = rest} {a = a} go) = at_action now x y d rest a (settled now x y r go)

@@ -81,7 +81,7 @@ pub record IsAmong (whole before : List Lexed) (x y : Lexed) : Type 0 where
   pub after : List (WithNext Lexed)
   pub pairs : with_next whole ≡ paired before x ++ record { token = x; next = y } ∷ after
 
-last_listed : (c at : Cursor) (before : List Lexed) (x : Lexed) → Leads c before at → IsGiven at x → is_last x ≡ true → IsTokenList c (before ++ x ∷ [])
+pub last_listed : (c at : Cursor) (before : List Lexed) (x : Lexed) → Leads c before at → IsGiven at x → is_last x ≡ true → IsTokenList c (before ++ x ∷ [])
 last_listed c at before x leads given last = record { before = before; last = x; parts = refl; are = record { at = at; leads = leads; given = given; last = last } }
 
 pub last_among : (c at : Cursor) (before whole : List Lexed) (x y : Lexed) → whole ≡ before ++ x ∷ [] → Leads c before at → IsGiven at x → IsGiven (past at x) y → is_last x ≡ true
