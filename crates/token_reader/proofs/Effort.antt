@@ -1,5 +1,5 @@
 -- Each step of the reader that takes no token leaves fewer of them.
-use Rattle.std.proofs.Common.{◌≡◌, ℕ, zero, suc, ◌+◌, ◌<◌, ◌≤◌, Bool, true, false, nat_lt, if◌then◌else◌, List, [], ◌∷◌, ◌++◌, Some, refl, sym, ◌∙◌, ap, subst, arith}
+use Rattle.std.proofs.Common.{◌≡◌, ℕ, zero, suc, ◌+◌, ◌<◌, ◌≤◌, Bool, true, false, ◌&&◌, nat_lt, if◌then◌else◌, List, [], ◌∷◌, ◌++◌, Some, refl, sym, ◌∙◌, ap, subst, arith}
 use Rattle.std.specs.List.{list_all}
 use Rattle.std.proofs.lemmas.Bool.{ltb-true}
 use Rattle.grammar.specs.declared.symbol.Symbol.{Symbol}
@@ -30,7 +30,7 @@ module _ {W R D S : Type 0} (rules : Rules W R D S) where
   same_ahead c d n agree [] e = refl
   same_ahead c d n agree (Terminal w ∷ rest) e = refl
   same_ahead c d n agree (Action a ∷ rest) e = ap suc (same_ahead c d n agree rest e)
-  same_ahead c d n agree (Rule r ∷ rest) e = by_empty (empty r) refl
+  same_ahead c d n agree (Rule r ∷ rest) e = by_empty (λ goes. same_ahead c d n agree rest goes) (empty r) refl
     where
       both : (nat_lt (rules.level r) n ≡ true) × (implies (empty r) (down n rest) ≡ true)
       both = and_cases (nat_lt (rules.level r) n) (implies (empty r) (down n rest)) e
@@ -38,9 +38,10 @@ module _ {W R D S : Type 0} (rules : Rules W R D S) where
       same : c r ≡ d r
       same = agree r (ltb-true (rules.level r) n both.0)
 
-      by_empty : (b : Bool) → empty r ≡ b → c r + (if empty r then ahead empty c rest else 0) ≡ d r + (if empty r then ahead empty d rest else 0)
-      by_empty true is = rw is (sum_same (c r) (ahead empty c rest) (d r) (ahead empty d rest) same (same_ahead c d n agree rest (implied (empty r) (down n rest) both.1 is)))
-      by_empty false is = rw is (sum_same (c r) 0 (d r) 0 same refl)
+      by_empty : (down n rest ≡ true → ahead empty c rest ≡ ahead empty d rest) → (b : Bool) → empty r ≡ b
+          → c r + (if empty r then ahead empty c rest else 0) ≡ d r + (if empty r then ahead empty d rest else 0)
+      by_empty more true is = rw is (sum_same (c r) (ahead empty c rest) (d r) (ahead empty d rest) same (more (implied (empty r) (down n rest) both.1 is)))
+      by_empty more false is = rw is (sum_same (c r) 0 (d r) 0 same refl)
 
   same_all : (c d : R → ℕ) (n : ℕ) → ((q : R) → rules.level q < n → c q ≡ d q) → (bodies : List Symbols) → list_all (down n) bodies ≡ true → all_ahead empty c bodies ≡ all_ahead empty d bodies
   same_all c d n agree [] e = refl
@@ -81,23 +82,24 @@ module _ {W R D S : Type 0} (rules : Rules W R D S) where
     ahead_append c [] q = omega arith
     ahead_append c (Terminal w ∷ p) q = omega arith
     ahead_append c (Action d ∷ p) q = let more = ahead_append c p q in omega arith
-    ahead_append c (Rule r ∷ p) q = by_empty (empty r) refl
+    ahead_append c (Rule r ∷ p) q = by_empty (ahead_append c p q) (empty r) refl
       where
-        by_empty : (b : Bool) → empty r ≡ b → c r + (if empty r then ahead empty c (p ++ q) else 0) ≤ c r + (if empty r then ahead empty c p else 0) + ahead empty c q
-        by_empty true is = rw is (let more = ahead_append c p q in omega arith)
-        by_empty false is = rw is (omega arith)
+        by_empty : ahead empty c (p ++ q) ≤ ahead empty c p + ahead empty c q → (b : Bool) → empty r ≡ b → c r + (if empty r then ahead empty c (p ++ q) else 0) ≤ c r + (if empty r then ahead empty c p else 0) + ahead empty c q
+        by_empty more true is = rw is (omega arith)
+        by_empty more false is = rw is (omega arith)
 
     ahead_full : (c : R → ℕ) (p q : Symbols) → is_nullable rules.table rules.lookahead p ≡ false → ahead empty c (p ++ q) ≡ ahead empty c p
     ahead_full c [] q e = cc
     ahead_full c (Terminal w ∷ p) q e = refl
     ahead_full c (Action d ∷ p) q e = ap suc (ahead_full c p q e)
-    ahead_full c (Rule r ∷ p) q e = by_empty (empty r) refl
+    ahead_full c (Rule r ∷ p) q e = by_empty (λ others. ahead_full c p q others) (empty r) refl
       where
-        by_empty : (b : Bool) → empty r ≡ b → c r + (if empty r then ahead empty c (p ++ q) else 0) ≡ c r + (if empty r then ahead empty c p else 0)
-        by_empty true is =
-            let others : is_nullable rules.table rules.lookahead p ≡ false = subst (λ b. (if b then is_nullable rules.table rules.lookahead p else false) ≡ false) is e in
-            rw is (ap (λ n. c r + n) (ahead_full c p q others))
-        by_empty false is = rw is refl
+        by_empty : (is_nullable rules.table rules.lookahead p ≡ false → ahead empty c (p ++ q) ≡ ahead empty c p) → (b : Bool) → empty r ≡ b
+            → c r + (if empty r then ahead empty c (p ++ q) else 0) ≡ c r + (if empty r then ahead empty c p else 0)
+        by_empty more true is =
+            let others : is_nullable rules.table rules.lookahead p ≡ false = subst (λ b. (b && is_nullable rules.table rules.lookahead p) ≡ false) is e in
+            rw is (ap (λ n. c r + n) (more others))
+        by_empty more false is = rw is refl
 
     pub less_action : (d : D) (stack : Symbols) → effort rules stack < effort rules (Action d ∷ stack)
     unfolding effort
@@ -112,8 +114,8 @@ module _ {W R D S : Type 0} (rules : Rules W R D S) where
 
         by_body : empty r ≡ false → (b : Bool) → is_nullable rules.table rules.lookahead body ≡ b → ahead empty (cost rules) (body ++ stack) < cost rules r + 0
         by_body is true none = let no : empty r ≡ true = ok.right.empty r i body at none in cc
-        by_body is false none = let same = ahead_full (cost rules) body stack none in omega arith
+        by_body is false none = let cheap = cheap in let same = ahead_full (cost rules) body stack none in omega arith
 
         by_empty : (b : Bool) → empty r ≡ b → ahead empty (cost rules) (body ++ stack) < cost rules r + (if empty r then ahead empty (cost rules) stack else 0)
-        by_empty true is = rw is (let sum = ahead_append (cost rules) body stack in omega arith)
+        by_empty true is = rw is (let cheap = cheap in let sum = ahead_append (cost rules) body stack in omega arith)
         by_empty false is = rw is (by_body is (is_nullable rules.table rules.lookahead body) refl)

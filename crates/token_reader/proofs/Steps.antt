@@ -183,6 +183,9 @@ module _ {W R D S : Type 0} (rules : Rules W R D S) (ok : IsReadable rules) wher
     sees_at now x y stack a seen w m b r is tests answers =
         ap (λ k. rules.table.matches w k) (sym (is ∙ ap (λ l. kind_of l x) (text_of now x y stack a r))) ∙ (sym tests ∙ answers)
 
+    pub bad_sees : (now : Cursor) (x : Lexed) (b : BadToken) (w : W) → x ≡ Err b → rules.table.matches w (kind_of bytes x) ≡ false
+    bad_sees now x b w is = subst (λ v. rules.table.matches w (kind_of bytes v) ≡ false) (sym is) (ok.no_token w)
+
     -- the token may stand for the terminal, as the semantics see it
     sees_it : (x y : Lexed) (w : W) (b : Bool) → rules.table.matches w (kind_of bytes x) ≡ b → rules.table.matches w ((rules.semantics bytes).kind (pair x y)) ≡ b
     sees_it x y w b sees = subst (λ k. rules.table.matches w k ≡ b) (sym (ok.kinds bytes (pair x y))) sees
