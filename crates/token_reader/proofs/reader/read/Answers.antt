@@ -1,6 +1,6 @@
 use Rattle.std.proofs.Common.{◌≡◌, ◌<◌, ◌∷◌, [], ◌++◌, true, false, Ok, Err, sym, ◌∙◌, ap, subst, arith}
 use Rattle.std.proofs.lemmas.Result.{err_from_is_err_and}
-use Rattle.std.proofs.Math.ListN.{append-nil}
+use Rattle.std.proofs.Common.{append-nil}
 use Rattle.grammar.specs.declared.symbol.Symbol.TheVariants.{Terminal}
 use Rattle.text_lexer.specs.Cursor.{Cursor, start_of}
 use Rattle.text_lexer.specs.Tokens.{IsGiven, past, is_last}
@@ -28,7 +28,7 @@ loop-state-init g c =
     let given = subst (λ v. IsGiven v x) begin (given_of c.new-lexer.result x e.token e.bad) in
     let more = subst (λ v. IsGiven v y) led (given_of mid y f.token f.bad) in
     let moved = past_of mid now y f.moved f.stays ∙ ap (λ v. past v y) led in
-    let stack : c.push_all.new.self ≡ rules.text = c.in_ok-push_all.ensures ∙ (ap (λ l. c.whole_text.result.now ++ l) c.new-stack.ensures ∙ (append_nil c.whole_text.result.now ∙ c.whole_text.ensures)) in
+    let stack : c.push_all.new.self ≡ rules.text = c.in_ok-push_all.ensures ∙ (ap (λ l. c.whole_text.result.now ++ l) c.new-stack.ensures ∙ (append-nil c.whole_text.result.now ∙ c.whole_text.ensures)) in
     subst (λ l. IsReading rules bytes line c.args.first now x y l c.args.first) (sym stack)
     (at_start rules g.met.S.TextState.readable bytes line c.args.first now x y given more moved)
 
