@@ -75,7 +75,7 @@ returns-then-not-matches-clause-bad g c =
     let a = c.settle.new.state in
     let reading = found rules ok bytes line first s.lexer s.token s.next s.stack out s.state a c.kind_of.result c.in_ok-terminal.field-0 w s.invariant c.kind_of.ensures c.in_ok-terminal.ensures c.in-Some.is in
     let x = c.in-Ok.taken in
-    let sees = sees_at rules ok bytes line first s.lexer s.token s.next (Terminal w ∷ out) a c.kind_of-in-Some.result w c.matches.result false reading c.kind_of-in-Some.ensures c.matches.ensures c.if-not-matches.true in
+    let sees = sees_at rules ok bytes line first s.lexer s.token s.next (Terminal w ∷ out) a c.kind_of-in-Some.result w c.matches.result false reading (c.kind_of-in-Some.ensures ∙ ap (λ v. kind_of s.lexer.text v) (sym c.in-Ok.is)) c.matches.ensures c.if-not-matches.true in
     subst (IsRefusedOr (language rules first line) bytes) (sym c.unexpected-then-not-matches.ensures)
     (bad_terminal rules ok bytes line first c.utf8.text s.lexer s.token s.next w out a reading sees)
 
@@ -122,7 +122,7 @@ returns-in_err-accept-clause-bad g c =
     let a = c.settle.new.state in
     let reading = found rules ok bytes line first s.lexer s.token s.next s.stack out s.state a c.kind_of.result c.in_ok-terminal.field-0 w s.invariant c.kind_of.ensures c.in_ok-terminal.ensures c.in-Some.is in
     let x = c.in-Ok.taken in
-    let sees = sees_at rules ok bytes line first s.lexer s.token s.next (Terminal w ∷ out) a c.kind_of-in-Some.result w c.matches.result true reading c.kind_of-in-Some.ensures c.matches.ensures c.if-not-matches.false in
+    let sees = sees_at rules ok bytes line first s.lexer s.token s.next (Terminal w ∷ out) a c.kind_of-in-Some.result w c.matches.result true reading (c.kind_of-in-Some.ensures ∙ ap (λ v. kind_of s.lexer.text v) (sym c.in-Ok.is)) c.matches.ensures c.if-not-matches.false in
     let at = subst (λ v. IsReading rules bytes line first s.lexer v s.next (Terminal w ∷ out) a) c.in-Ok.is reading in
     let stands = subst (λ v. rules.table.matches w (kind_of bytes v) ≡ true) c.in-Ok.is sees in
     let same = text_of rules ok bytes line first s.lexer s.token s.next (Terminal w ∷ out) a reading in
@@ -145,7 +145,7 @@ returns-then-is_end-clause-ok g c =
     let a = c.settle.new.state in
     let reading = found rules ok bytes line first s.lexer s.token s.next s.stack out s.state a c.kind_of.result c.in_ok-terminal.field-0 w s.invariant c.kind_of.ensures c.in_ok-terminal.ensures c.in-Some.is in
     let x = c.in-Ok.taken in
-    let sees = sees_at rules ok bytes line first s.lexer s.token s.next (Terminal w ∷ out) a c.kind_of-in-Some.result w c.matches.result true reading c.kind_of-in-Some.ensures c.matches.ensures c.if-not-matches.false in
+    let sees = sees_at rules ok bytes line first s.lexer s.token s.next (Terminal w ∷ out) a c.kind_of-in-Some.result w c.matches.result true reading (c.kind_of-in-Some.ensures ∙ ap (λ v. kind_of s.lexer.text v) (sym c.in-Ok.is)) c.matches.ensures c.if-not-matches.false in
     let at = subst (λ v. IsReading rules bytes line first s.lexer v s.next (Terminal w ∷ out) a) c.in-Ok.is reading in
     let stands = subst (λ v. rules.table.matches w (kind_of bytes v) ≡ true) c.in-Ok.is sees in
     let same = text_of rules ok bytes line first s.lexer s.token s.next (Terminal w ∷ out) a reading in
@@ -166,13 +166,12 @@ loop-state-preserved g c =
     let a = c.settle.new.state in
     let reading = found rules ok bytes line first s.lexer s.token s.next s.stack out s.state a c.kind_of.result c.in_ok-terminal.field-0 w s.invariant c.kind_of.ensures c.in_ok-terminal.ensures c.in-Some.is in
     let x = c.in-Ok.taken in
-    let sees = sees_at rules ok bytes line first s.lexer s.token s.next (Terminal w ∷ out) a c.kind_of-in-Some.result w c.matches.result true reading c.kind_of-in-Some.ensures c.matches.ensures c.if-not-matches.false in
+    let sees = sees_at rules ok bytes line first s.lexer s.token s.next (Terminal w ∷ out) a c.kind_of-in-Some.result w c.matches.result true reading (c.kind_of-in-Some.ensures ∙ ap (λ v. kind_of s.lexer.text v) (sym c.in-Ok.is)) c.matches.ensures c.if-not-matches.false in
     let at = subst (λ v. IsReading rules bytes line first s.lexer v s.next (Terminal w ∷ out) a) c.in-Ok.is reading in
     let stands = subst (λ v. rules.table.matches w (kind_of bytes v) ≡ true) c.in-Ok.is sees in
     let same = text_of rules ok bytes line first s.lexer s.token s.next (Terminal w ∷ out) a reading in
     let took = subst (λ l. (rules.semantics l).accept w a (record { token = Ok x; next = s.next }) ≡ Ok c.accept.new.self) same c.in_ok-accept.ensures in
     let more = sym c.is_end.ensures ∙ c.if-is_end.false in
-    let e = c.next-next-in-loop-state.ensures in
     ?
 
 pub returns-clause-bad : goal.returns-clause-bad
@@ -183,4 +182,11 @@ returns-clause-bad g c =
     let bytes = c.args.text.now in
     let line = c.args.first_line in
     let first = c.args.first in
+    let a = c.settle.new.state in
+    let reading = none_found rules ok bytes line first s.lexer s.token s.next s.stack c.settle.new.stack s.state a c.kind_of.result c.in_ok-terminal.field-0 s.invariant c.kind_of.ensures c.in_ok-terminal.ensures c.in_default.is in
+    subst (IsRefusedOr (language rules first line) bytes) (sym c.unexpected-2.ensures)
+    (bad_end rules ok bytes line first c.utf8.text s.lexer s.token s.next a reading)
+
+pub loop-state-smaller : goal.loop-state-smaller
+loop-state-smaller g c =
     ?
