@@ -76,8 +76,10 @@ returns-then-not-matches-clause-bad g c =
     let reading = found rules ok bytes line first s.lexer s.token s.next s.stack out s.state a c.kind_of.result c.in_ok-terminal.field-0 w s.invariant c.kind_of.ensures c.in_ok-terminal.ensures c.in-Some.is in
     let x = c.in-Ok.taken in
     let sees = sees_at rules ok bytes line first s.lexer s.token s.next (Terminal w ∷ out) a c.kind_of-in-Some.result w c.matches.result false reading (c.kind_of-in-Some.ensures ∙ ap (λ v. kind_of s.lexer.text v) (sym c.in-Ok.is)) c.matches.ensures c.if-not-matches.true in
+    let at = subst (λ v. IsReading rules bytes line first s.lexer v s.next (Terminal w ∷ out) a) c.in-Ok.is reading in
+    let lacks = subst (λ v. rules.table.matches w (kind_of bytes v) ≡ false) c.in-Ok.is sees in
     subst (IsRefusedOr (language rules first line) bytes) (sym c.unexpected-then-not-matches.ensures)
-    (bad_terminal rules ok bytes line first c.utf8.text s.lexer s.token s.next w out a reading sees)
+    (bad_terminal rules ok bytes line first c.utf8.text s.lexer (Ok x) s.next w out a at lacks)
 
 pub accept-requires-clause-of_text : goal.accept-requires-clause-of_text
 accept-requires-clause-of_text g c =
@@ -172,7 +174,12 @@ loop-state-preserved g c =
     let same = text_of rules ok bytes line first s.lexer s.token s.next (Terminal w ∷ out) a reading in
     let took = subst (λ l. (rules.semantics l).accept w a (record { token = Ok x; next = s.next }) ≡ Ok c.accept.new.self) same c.in_ok-accept.ensures in
     let more = sym c.is_end.ensures ∙ c.if-is_end.false in
-    ?
+    let now = c.next-next-in-Some.new.self in
+    let z = c.next-next-in-Some.result in
+    let e = c.next-next-in-Some.ensures in
+    let given = given_of s.lexer z e.token e.bad in
+    let moved = past_of s.lexer now z e.moved e.stays in
+    at_terminal rules ok bytes line first s.lexer now (Ok x) s.next z w out a c.accept.new.self at stands took more given moved
 
 pub returns-clause-bad : goal.returns-clause-bad
 returns-clause-bad g c =
@@ -189,4 +196,25 @@ returns-clause-bad g c =
 
 pub loop-state-smaller : goal.loop-state-smaller
 loop-state-smaller g c =
-    ?
+    let s = c.loop-state in
+    let rules = g.S.TextState.rules in
+    let ok = g.met.S.TextState.readable in
+    let bytes = c.args.text.now in
+    let line = c.args.first_line in
+    let first = c.args.first in
+    let w = c.in-Some.terminal in
+    let out = c.settle.new.stack in
+    let a = c.settle.new.state in
+    let reading = found rules ok bytes line first s.lexer s.token s.next s.stack out s.state a c.kind_of.result c.in_ok-terminal.field-0 w s.invariant c.kind_of.ensures c.in_ok-terminal.ensures c.in-Some.is in
+    let x = c.in-Ok.taken in
+    let sees = sees_at rules ok bytes line first s.lexer s.token s.next (Terminal w ∷ out) a c.kind_of-in-Some.result w c.matches.result true reading (c.kind_of-in-Some.ensures ∙ ap (λ v. kind_of s.lexer.text v) (sym c.in-Ok.is)) c.matches.ensures c.if-not-matches.false in
+    let at = subst (λ v. IsReading rules bytes line first s.lexer v s.next (Terminal w ∷ out) a) c.in-Ok.is reading in
+    let stands = subst (λ v. rules.table.matches w (kind_of bytes v) ≡ true) c.in-Ok.is sees in
+    let more = sym c.is_end.ensures ∙ c.if-is_end.false in
+    let now = c.next-next-in-Some.new.self in
+    let z = c.next-next-in-Some.result in
+    let e = c.next-next-in-Some.ensures in
+    let given = given_of s.lexer z e.token e.bad in
+    let moved = past_of s.lexer now z e.moved e.stays in
+    subst (λ v. left now s.next z < left s.lexer v s.next) (sym c.in-Ok.is)
+    (fewer_left rules ok bytes line first s.lexer now (Ok x) s.next z (Terminal w ∷ out) a at more given moved)
