@@ -1,5 +1,5 @@
 -- Each step of the reader that takes no token leaves fewer of them.
-use Rattle.std.proofs.Common.{◌≡◌, ℕ, zero, suc, ◌+◌, ◌<◌, ◌≤◌, Bool, true, false, ◌&&◌, nat_lt, if◌then◌else◌, List, [], ◌∷◌, ◌++◌, Some, refl, sym, ◌∙◌, ap, subst, arith}
+use Rattle.std.proofs.Common.{◌≡◌, ℕ, zero, suc, ◌+◌, ◌<◌, ◌≤◌, Bool, true, false, ◌&&◌, nat_lt, if◌then◌else◌, List, [], ◌∷◌, ◌++◌, Some, refl, ap, subst, arith}
 use Rattle.std.specs.List.{list_all}
 use Rattle.std.proofs.lemmas.Bool.{ltb-true}
 use Rattle.grammar.specs.declared.symbol.Symbol.{Symbol}
@@ -73,7 +73,7 @@ module _ {W R D S : Type 0} (rules : Rules W R D S) where
     cheaper r i body at =
         let goes = all_at (down (rules.level r)) (rules.table.productions r) i body (ok.down r) at in
         let same = same_ahead (cost_at rules (rules.level r)) (cost rules) (rules.level r)
-            (λ q less. stays (rules.level r) (suc (rules.level q)) q less (omega arith)) body goes in
+        (λ q less. stays (rules.level r) (suc (rules.level q)) q less (omega arith)) body goes in
         let one = one_of_all (cost_at rules (rules.level r)) (rules.table.productions r) i body at in
         omega arith
 

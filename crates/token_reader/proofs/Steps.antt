@@ -1,11 +1,9 @@
 -- The steps of the reader.
-use Rattle.std.proofs.Common.{◌≡◌, ◌⊎◌, ℕ, suc, ◌+◌, ◌<◌, ◌≤◌, Bool, true, false, not, ◌||◌, List, [], ◌∷◌, ◌++◌, length, Option, Some, None, Ok, Err, IfOk, IfErr, OnErr, Result, inl, inr, refl, sym, ◌∙◌, ap, subst, arith, append_assoc}
+use Rattle.std.proofs.Common.{◌≡◌, ◌⊎◌, ℕ, ◌+◌, ◌<◌, ◌≤◌, Bool, true, false, not, ◌||◌, List, [], ◌∷◌, ◌++◌, length, Option, Some, None, Ok, Err, IfOk, IfErr, OnErr, inl, inr, refl, sym, ◌∙◌, ap, subst, arith}
 use Rattle.std.specs.Str.{IsUtf8}
-use Rattle.std.specs.List.{list_all}
-use Rattle.std.proofs.lemmas.Bool.{false≢true}
 use Rattle.grammar.specs.declared.symbol.Symbol.{Symbol}
 use Rattle.grammar.specs.declared.symbol.Symbol.TheVariants.{Terminal, Rule, Action}
-use Rattle.grammar.specs.Ahead.{WithNext, with_next}
+use Rattle.grammar.specs.Ahead.{WithNext}
 use Rattle.grammar.specs.Ends.{stops}
 use Rattle.grammar.specs.Semantics.{Reads, Refuses}
 use Rattle.grammar.specs.Stands.{Stands}
@@ -14,12 +12,11 @@ use Rattle.grammar.proofs.Theory.{or_cases, and_cases}
 use Rattle.grammar.proofs.Tests.{all_at}
 use Rattle.grammar.proofs.Standing.{stands_start, stands_terminal, stands_rule, stands_action, refuses_terminal, refuses_check, refuses_empty}
 use Rattle.text_lexer.specs.declared.token.BadToken.{BadToken}
-use Rattle.text_lexer.specs.declared.token.Token.{Token}
 use Rattle.text_lexer.specs.Computed.{tokens_of}
 use Rattle.text_lexer.specs.Cursor.{Cursor, start_of}
 use Rattle.text_lexer.specs.Lexing.{IsNext, IsBad, after}
 use Rattle.text_lexer.specs.Token.{IsTokenOf}
-use Rattle.text_lexer.specs.Tokens.{Lexed, IsGiven, past, is_last, Leads, here, IsTokenList}
+use Rattle.text_lexer.specs.Tokens.{Lexed, IsGiven, past, is_last, here, IsTokenList}
 use Rattle.text_lexer.proofs.AllTokens.{all_computed}
 use Rattle.text_lexer.proofs.TokenLists.{leads_on, text_past}
 use Rattle.text_grammar.specs.declared.kind.Seen.{Seen}
@@ -30,7 +27,7 @@ use Rattle.part_meaning.specs.Part.{IsReadTo, IsRefused, bad_token}
 use Rattle.token_reader.specs.Rules.{Rules, IsReadable, Accepts, language, unexpected}
 use Rattle.token_reader.specs.Reading.{paired, Closes, Settles, here as settled_here, rule, action, IsReading, left, on_top}
 use Rattle.token_reader.specs.Refused.{IsRefusedOr}
-use Rattle.token_reader.proofs.Tokens.{goes_on, again, led_text, led_within, paired_on, whole_pairs, IsAmong, last_listed, last_among, inner_among, last_pairs}
+use Rattle.token_reader.proofs.Tokens.{goes_on, led_text, led_within, paired_on, IsAmong, last_listed, last_among, inner_among, last_pairs}
 
 -- ---- what a call of the lexer says
 

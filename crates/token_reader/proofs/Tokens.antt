@@ -1,10 +1,10 @@
 -- The lexer's tokens, each with the next one.
-use Rattle.std.proofs.Common.{◌≡◌, ℕ, ◌+◌, ◌-◌, ◌<◌, ◌≤◌, true, false, cond, List, [], ◌∷◌, ◌++◌, length, drop, get_or, Ok, Err, refl, sym, ◌∙◌, ap, subst, arith, append_assoc}
+use Rattle.std.proofs.Common.{◌≡◌, ◌-◌, ◌<◌, ◌≤◌, true, false, cond, List, [], ◌∷◌, ◌++◌, length, drop, get_or, Ok, Err, refl, sym, ◌∙◌, ap, subst, arith, append_assoc}
 use Rattle.std.proofs.lemmas.Bool.{false≢true}
 use Rattle.grammar.specs.Ahead.{WithNext, with_next}
 use Rattle.text_lexer.specs.declared.token.TokenKind.{TokenKind}
 use Rattle.text_lexer.specs.declared.token.TokenKind.TheVariants.{End}
-use Rattle.text_lexer.specs.Cursor.{Cursor, start_of}
+use Rattle.text_lexer.specs.Cursor.{Cursor}
 use Rattle.text_lexer.specs.Lexing.{is_end, after}
 use Rattle.text_lexer.specs.Tokens.{Lexed, IsGiven, past, is_last, Leads, here, on, IsTokenList}
 use Rattle.text_lexer.proofs.TokenLists.{one_given, leads_on, text_past, IsFront, front, is_front}

@@ -48,7 +48,12 @@ fn is_end(token: Token) -> bool
 
 /// Does the actions on the stack, and puts the productions of its rules on it, until a terminal is on top, which is
 /// taken off. There is none where the stack is empty.
-fn settle<W: Copy + Drop + 'static, R: Copy + Drop + 'static, D: Copy + Drop + 'static, S: TextState<W, R, D>>(
+fn settle<
+    W: Copy + Drop + 'static,
+    R: Copy + Drop + 'static,
+    D: Copy + Drop + 'static,
+    S: TextState<W, R, D>,
+>(
     alloc: Global,
     token: Seen,
     stack: &mut Stack<Symbol<W, R, D>>,
@@ -67,12 +72,12 @@ fn settle<W: Copy + Drop + 'static, R: Copy + Drop + 'static, D: Copy + Drop + '
 }
 
 /// The state to which the tokens of the text lead, or why the text is refused.
-pub fn read<W: Copy + Drop + 'static, R: Copy + Drop + 'static, D: Copy + Drop + 'static, S: TextState<W, R, D> + Drop>(
-    alloc: Global,
-    first: S,
-    text: &str,
-    first_line: u32,
-) -> Result<S, Refusal>
+pub fn read<
+    W: Copy + Drop + 'static,
+    R: Copy + Drop + 'static,
+    D: Copy + Drop + 'static,
+    S: TextState<W, R, D> + Drop,
+>(alloc: Global, first: S, text: &str, first_line: u32) -> Result<S, Refusal>
     requires length { length text.now + first_line < 2 ^ 31 }
     requires room { S.rules.size first + length text.now < 2 ^ 31 }
     ensures ok { IfOk result (IsReadTo (spec.language S.rules first first_line) text.now) }

@@ -1,15 +1,14 @@
-use Rattle.std.proofs.Common.{◌≡◌, ◌<◌, ◌∷◌, [], ◌++◌, true, false, Ok, Err, sym, ◌∙◌, ap, subst, arith}
+use Rattle.std.proofs.Common.{◌≡◌, ◌<◌, ◌∷◌, ◌++◌, true, false, Ok, Err, sym, ◌∙◌, ap, subst, arith}
 use Rattle.std.proofs.lemmas.Result.{err_from_is_err_and}
 use Rattle.std.proofs.Common.{append-nil}
 use Rattle.grammar.specs.declared.symbol.Symbol.TheVariants.{Terminal}
-use Rattle.text_lexer.specs.Cursor.{Cursor, start_of}
-use Rattle.text_lexer.specs.Tokens.{IsGiven, past, is_last}
-use Rattle.text_lexer.specs.Token.{IsTokenOf}
+use Rattle.text_lexer.specs.Cursor.{start_of}
+use Rattle.text_lexer.specs.Tokens.{IsGiven, past}
 use Rattle.text_grammar.specs.Kind.{kind_of}
-use Rattle.token_reader.specs.Rules.{Accepts, language, unexpected}
+use Rattle.token_reader.specs.Rules.{Accepts, language}
 use Rattle.token_reader.specs.Reading.{IsReading, left}
 use Rattle.token_reader.specs.Refused.{IsRefusedOr}
-use Rattle.token_reader.proofs.Steps.{given_of, past_of, at_start, found, none_found, sees_at, bad_sees, text_of, token_of, next_of, room, at_terminal, fewer_left, at_end, bad_terminal, bad_end, bad_check}
+use Rattle.token_reader.proofs.Steps.{given_of, past_of, at_start, found, none_found, sees_at, bad_sees, text_of, token_of, room, at_terminal, fewer_left, at_end, bad_terminal, bad_end, bad_check}
 use Rattle.token_reader.proofs.reader.read.Goals as goal
 
 pub loop-state-init : goal.loop-state-init

@@ -1,4 +1,3 @@
-use Rattle.std.proofs.Common.{ℕ, List}
 use Rattle.token_reader.specs.Reading.{IsReading, left}
 use Rattle.token_reader.proofs.reader.read.Given as goal
 

@@ -1,5 +1,4 @@
-use Rattle.std.proofs.Common.{◌≡◌, ◌<◌, ◌∷◌, ◌++◌, sym, ◌∙◌, ap, subst}
-use Rattle.grammar.specs.declared.symbol.Symbol.TheVariants.{Rule, Action}
+use Rattle.std.proofs.Common.{◌<◌, ◌∷◌, ◌++◌, sym, ◌∙◌, ap, subst}
 use Rattle.token_reader.specs.Reading.{Settles, here, rule, action}
 use Rattle.token_reader.specs.Effort.{effort}
 use Rattle.token_reader.proofs.Effort.{less_rule, less_action}
