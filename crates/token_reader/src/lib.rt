@@ -2,8 +2,10 @@
 //! to right, and keeps on a stack what has to come. What a token or an action does is an `impl` of `TextState`.
 #![tactic(auto)]
 
+mod bytes;
 mod reader;
 mod state;
 
+pub use bytes::read_bytes;
 pub use reader::read;
 pub use state::TextState;
