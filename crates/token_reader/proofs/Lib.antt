@@ -2,3 +2,4 @@ pub mod Effort
 pub mod Tokens
 pub mod Steps
 pub mod Utf8
+pub mod Words

@@ -2,3 +2,4 @@ pub mod Rules
 pub mod Effort
 pub mod Reading
 pub mod Refused
+pub mod Words

@@ -9,3 +9,6 @@ mod state;
 pub use bytes::read_bytes;
 pub use reader::read;
 pub use state::TextState;
+
+#[cfg(test)]
+mod tests;
