@@ -2,4 +2,3 @@ pub mod Effort
 pub mod Tokens
 pub mod Steps
 pub mod Utf8
-pub mod Words

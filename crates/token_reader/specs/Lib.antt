@@ -3,3 +3,4 @@ pub mod Effort
 pub mod Reading
 pub mod Refused
 pub mod Words
+pub mod Readable

@@ -2,7 +2,7 @@
 
 ghost use Rattle.std.specs.Prelude.{ℕ};
 ghost use Rattle.token_reader.specs.Words.{words};
-ghost use Rattle.token_reader.proofs.Words.{readable as words_are_readable};
+ghost use Rattle.token_reader.specs.Readable.{readable as words_are_readable};
 
 use crate::bytes::read_bytes;
 use crate::state::TextState;

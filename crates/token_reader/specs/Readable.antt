@@ -4,11 +4,10 @@ use Rattle.std.proofs.lemmas.Bool.{false≢true}
 use Rattle.std.specs.List.{list_all}
 use Rattle.grammar.specs.declared.symbol.Symbol.TheVariants as s
 use Rattle.grammar.specs.Ahead.{WithNext}
-use Rattle.grammar.specs.Ends.{IsLast, Blocks, stops}
+use Rattle.grammar.specs.Ends.{IsLast, Blocks, rule_stops}
 use Rattle.grammar.specs.Lookahead.{is_predictive}
 use Rattle.grammar.specs.Machine.{Fits, IsRight}
 use Rattle.grammar.specs.Table.{production_at}
-use Rattle.grammar.proofs.Theory.{or_left}
 use Rattle.grammar.proofs.Tests.{right_from}
 use Rattle.text_lexer.specs.declared.token.Token.{Token}
 use Rattle.text_lexer.specs.declared.token.TokenKind.{TokenKind}
@@ -32,7 +31,7 @@ is_right : IsRight table lookahead
 is_right = right_from table lookahead (true ∷ false ∷ []) (tt ∷ []) all_seen terminal_at rule_at kind_at refl refl
 
 fits : Fits table lookahead words.text
-fits = (λ k ends. or_left (matches false k) false ends, tt)
+fits = (λ k ends. ends, tt)
 
 seen_end : (k : TokenKind) (bytes : List ℕ) (touches : Bool) → is_end k ≡ true → end_seen touches ≡ record { kind = kind_of_token k bytes; touches = touches }
 seen_end token.Name bytes touches is = absurd (false≢true is)
@@ -42,16 +41,16 @@ seen_end token.Text bytes touches is = absurd (false≢true is)
 seen_end (token.Mark m) bytes touches is = absurd (false≢true is)
 seen_end token.End bytes touches is = refl
 
-last_of : (k : Seen) → stops table (λ w. false) k (s.Terminal true ∷ []) ≡ true → IsLast table (λ w. false) false k words.text
-last_of k none = record {
-  closes = record { inner = s.Rule tt ∷ []; whole = refl };
-  before = refl;
-  inside = λ r. subst (λ b. list_all (λ c. c) (b ∷ true ∷ []) ≡ true) {x = true} refl none;
-}
+last_of : (k : Seen) → rule_stops table (λ w. false) k tt ≡ true → IsLast table (λ w. false) false k words.text
+last_of k inside = record { closes = record { inner = s.Rule tt ∷ []; whole = refl }; before = refl; inside = λ r. inside }
+
+last_at : (touches : Bool) → IsLast table (λ w. false) false (end_seen touches) words.text
+last_at true = last_of (end_seen true) refl
+last_at false = last_of (end_seen false) refl
 
 last_token : (bytes : List ℕ) (x : Lexed) → is_last x ≡ true → IsLast table (λ w. false) false (kind_of bytes x) words.text
 last_token bytes (Ok x) is =
-    subst (λ k. IsLast table (λ w. false) false k words.text) (seen_end x.kind (slice_range bytes x.start x.end) x.touches is) (last_of (end_seen x.touches) refl)
+    subst (λ k. IsLast table (λ w. false) false k words.text) (seen_end x.kind (slice_range bytes x.start x.end) x.touches is) (last_at x.touches)
 last_token bytes (Err bad) is = last_of bad_seen refl
 
 no_token : (w : Bool) → matches w bad_seen ≡ false
