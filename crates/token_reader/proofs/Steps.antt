@@ -68,6 +68,13 @@ module _ {W R D S : Type 0} (rules : Rules W R D S) (ok : IsReadable rules) wher
   closes_rest k w rest (inl none) = subst (λ l. Closes rules k l) (sym none) tt
   closes_rest k w rest (inr more) = more.1
 
+  -- ---- actions add nothing
+
+  pub no_larger : {bytes : List ℕ} {seen : Seen} {stack : Symbols} {a : S} {out : Symbols} {b : S} → Settles rules bytes seen stack a out b → rules.size b ≤ rules.size a
+  no_larger settled_here = omega arith
+  no_larger (rule go chosen) = no_larger go
+  no_larger {bytes = bytes} (action {d = d} {a = now} go) = let more = no_larger go in let less = ok.no_more bytes d now in omega arith
+
   never : (b : Bool) → not b ≡ true → b ≡ true → ⊥
   never true e f = cc
   never false e f = cc
@@ -202,7 +209,7 @@ module _ {W R D S : Type 0} (rules : Rules W R D S) (ok : IsReadable rules) wher
           stands = subst (λ l. Stands rules.table rules.lookahead (rules.semantics bytes) rules.text first l (pair y z) stack b) (sym (paired_on r.before x y)) stood;
           few =
               let few = r.few in
-              let grown = ok.one_more bytes w a b (pair x y) took in
+              let grown = ok.one_more bytes w a b (pair x y) sees took in
               let goes = goes_on r.at x r.given more in
               let further = goes.further in
               omega arith;

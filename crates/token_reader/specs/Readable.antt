@@ -1,11 +1,8 @@
 -- The small language can be read.
 use Rattle.std.proofs.Common.{◌≡◌, ℕ, ◌+◌, ◌≤◌, ◌==◌, Bool, true, false, List, [], ◌∷◌, Some, Ok, Err, slice_range, refl, subst, arith}
 use Rattle.std.proofs.lemmas.Bool.{false≢true}
-use Rattle.std.specs.List.{list_all}
 use Rattle.grammar.specs.declared.symbol.Symbol.TheVariants as s
-use Rattle.grammar.specs.Ahead.{WithNext}
 use Rattle.grammar.specs.Ends.{IsLast, Blocks, rule_stops}
-use Rattle.grammar.specs.Lookahead.{is_predictive}
 use Rattle.grammar.specs.Machine.{Fits, IsRight}
 use Rattle.grammar.specs.Table.{production_at}
 use Rattle.grammar.proofs.Tests.{right_from}
@@ -82,6 +79,6 @@ readable = record {
   no_token = no_token;
   kinds = λ bytes x. refl;
   not_allowed = λ bytes x. refl;
-  one_more = λ bytes w a b x took. one_more w a b x.token took;
+  one_more = λ bytes w a b x sees took. one_more w a b x.token took;
   no_more = λ bytes d a. omega arith;
 }

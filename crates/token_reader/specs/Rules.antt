@@ -54,7 +54,8 @@ pub record IsReadable {W R D S : Type 0} (rules : Rules W R D S) : Type 0 where
   pub no_token : (w : W) → rules.table.matches w bad_seen ≡ false
   pub kinds : (bytes : List ℕ) (x : WithNext Lexed) → (rules.semantics bytes).kind x ≡ kind_of bytes x.token
   pub not_allowed : (bytes : List ℕ) (x : WithNext Lexed) → (rules.semantics bytes).unexpected x ≡ unexpected x.token
-  pub one_more : (bytes : List ℕ) (w : W) (a b : S) (x : WithNext Lexed) → (rules.semantics bytes).accept w a x ≡ Ok b → rules.size b ≤ rules.size a + 1
+  pub one_more : (bytes : List ℕ) (w : W) (a b : S) (x : WithNext Lexed) → rules.table.matches w (kind_of bytes x.token) ≡ true
+      → (rules.semantics bytes).accept w a x ≡ Ok b → rules.size b ≤ rules.size a + 1
   pub no_more : (bytes : List ℕ) (d : D) (a : S) → rules.size ((rules.semantics bytes).perform d a) ≤ rules.size a
 
 -- the answer and the state that it leaves are the outcome, but for want of memory

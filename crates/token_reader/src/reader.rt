@@ -59,6 +59,7 @@ fn settle<
     stack: &mut Stack<Symbol<W, R, D>>,
     state: &mut S,
 ) -> Result<Option<W>, AllocError>
+    requires room { S.rules.size state.old < 2 ^ 31 }
     ensures { IfOk result (λ top. (bytes : List ℕ) → Settles S.rules bytes token stack.old state.old (on_top top stack.new) state.new) }
 {
     while let Some(symbol) = stack.pop() {

@@ -46,6 +46,7 @@ pub trait TextState<W, R, D> {
 
     /// Does what an action says, whatever the bytes of the text are.
     fn perform(&mut self, alloc: Global, action: D) -> Result<(), AllocError>
+        requires { rules.size self.old < 2 ^ 31 }
         ensures { OnOk result ((bytes : List ℕ) → self.new ≡ (rules.semantics bytes).perform action self.old) };
 
     ghost readable: { IsReadable rules };

@@ -23,11 +23,7 @@ impl TextState<bool, (), ()> for u32 {
 
     fn production(_rule: (), token: Seen) -> &'static [Symbol<bool, (), ()>] {
         if Class::Only(Kind::Name).contains(token) {
-            &[
-                Symbol::Terminal(true),
-                Symbol::Action(()),
-                Symbol::Rule(()),
-            ]
+            &[Symbol::Terminal(true), Symbol::Action(()), Symbol::Rule(())]
         } else {
             &[]
         }
@@ -78,10 +74,25 @@ fn refused(why: Why, line: u32, column: u32) -> Result<u32, Refusal> {
 fn texts_are_read_or_refused(rt: HostRuntime) -> Result<(), Fail> {
     let alloc = rt.alloc();
     assert_eq!(rt; read_bytes::<bool, (), (), u32>(alloc, 0, b"", 1), Ok(0));
-    assert_eq!(rt; read_bytes::<bool, (), (), u32>(alloc, 0, b"a b # c", 1), Ok(2));
-    assert_eq!(rt; read_bytes::<bool, (), (), u32>(alloc, 0, b"a\nb c d", 7), refused(Why::TooDeep, 8, 5));
-    assert_eq!(rt; read_bytes::<bool, (), (), u32>(alloc, 0, b"a 1", 1), refused(Why::Unexpected, 1, 3));
-    assert_eq!(rt; read_bytes::<bool, (), (), u32>(alloc, 0, b"a $", 1), refused(Why::BadToken, 1, 3));
-    assert_eq!(rt; read_bytes::<bool, (), (), u32>(alloc, 0, b"a\n\xff", 1), refused(Why::BadUtf8, 2, 1));
+    assert_eq!(rt;
+        read_bytes::<bool, (), (), u32>(alloc, 0, b"a b # c", 1),
+        Ok(2)
+    );
+    assert_eq!(rt;
+        read_bytes::<bool, (), (), u32>(alloc, 0, b"a\nb c d", 7),
+        refused(Why::TooDeep, 8, 5)
+    );
+    assert_eq!(rt;
+        read_bytes::<bool, (), (), u32>(alloc, 0, b"a 1", 1),
+        refused(Why::Unexpected, 1, 3)
+    );
+    assert_eq!(rt;
+        read_bytes::<bool, (), (), u32>(alloc, 0, b"a $", 1),
+        refused(Why::BadToken, 1, 3)
+    );
+    assert_eq!(rt;
+        read_bytes::<bool, (), (), u32>(alloc, 0, b"a\n\xff", 1),
+        refused(Why::BadUtf8, 2, 1)
+    );
     Ok(())
 }

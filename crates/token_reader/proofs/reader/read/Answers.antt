@@ -217,3 +217,10 @@ loop-state-smaller g c =
     let moved = past_of s.lexer now z e.moved e.stays in
     subst (λ v. left now s.next z < left s.lexer v s.next) (sym c.in-Ok.is)
     (fewer_left rules ok bytes line first s.lexer now (Ok x) s.next z (Terminal w ∷ out) a at more given moved)
+
+pub settle-requires-clause-room : goal.settle-requires-clause-room
+settle-requires-clause-room g c =
+    let s = c.loop-state in
+    let few = room g.S.TextState.rules g.met.S.TextState.readable c.args.text.now c.args.first_line c.args.first s.lexer s.token s.next s.stack s.state s.invariant in
+    let limit = c.requires.room in
+    omega arith

@@ -1,7 +1,8 @@
-use Rattle.std.proofs.Common.{◌<◌, ◌∷◌, ◌++◌, sym, ◌∙◌, ap, subst}
+use Rattle.std.proofs.Common.{◌<◌, [], ◌∷◌, ◌++◌, sym, ◌∙◌, ap, subst, arith}
 use Rattle.token_reader.specs.Reading.{Settles, here, rule, action}
 use Rattle.token_reader.specs.Effort.{effort}
 use Rattle.token_reader.proofs.Effort.{less_rule, less_action}
+use Rattle.token_reader.proofs.Steps.{no_larger}
 use Rattle.token_reader.proofs.reader.settle.Goals as goal
 
 pub loop-symbol-init : goal.loop-symbol-init
@@ -37,3 +38,9 @@ loop-symbol-smaller g c =
     let popped = c.in-Some.ensures ∙ ap (λ top. top ∷ c.pop.new.self) c.in-Action.is in
     let less = less_action rules g.met.S.TextState.readable c.in-Action.action c.pop.new.self in
     subst (λ l. effort rules c.pop.new.self < effort rules l) (sym popped) less
+
+pub perform-requires : goal.perform-requires
+perform-requires g c =
+    let few = no_larger g.S.TextState.rules g.met.S.TextState.readable (c.loop-symbol.invariant []) in
+    let limit = c.requires.room in
+    omega arith
