@@ -1,0 +1,46 @@
+use Rattle.std.proofs.Common.{◌<◌, [], ◌∷◌, ◌++◌, sym, ◌∙◌, ap, subst, arith}
+use Rattle.token_reader.specs.Reading.{Settles, here, rule, action}
+use Rattle.token_reader.specs.Effort.{effort}
+use Rattle.token_reader.proofs.Effort.{less_rule, less_action}
+use Rattle.token_reader.proofs.Steps.{no_larger}
+use Rattle.token_reader.proofs.reader.settle.Goals as goal
+
+pub loop-symbol-init : goal.loop-symbol-init
+loop-symbol-init g c = λ bytes. here
+
+pub loop-symbol-preserved-in-Continue-1 : goal.loop-symbol-preserved-in-Continue-1
+loop-symbol-preserved-in-Continue-1 g c =
+    let rules = g.S.TextState.rules in
+    let popped = c.in-Some.ensures ∙ ap (λ top. top ∷ c.pop.new.self) c.in-Rule.is in
+    λ bytes.
+    subst (λ l. Settles rules bytes c.args.token c.args.stack.now c.args.state.now l c.loop-symbol.state) (sym c.in_ok-push_all-in-Rule.ensures)
+    (rule (subst (λ l. Settles rules bytes c.args.token c.args.stack.now c.args.state.now l c.loop-symbol.state) popped (c.loop-symbol.invariant bytes)) c.production.ensures)
+
+pub loop-symbol-preserved : goal.loop-symbol-preserved
+loop-symbol-preserved g c =
+    let rules = g.S.TextState.rules in
+    let popped = c.in-Some.ensures ∙ ap (λ top. top ∷ c.pop.new.self) c.in-Action.is in
+    λ bytes.
+    subst (λ a. Settles rules bytes c.args.token c.args.stack.now c.args.state.now c.pop.new.self a) (sym (c.in_ok-perform-in-Action.ensures bytes))
+    (action (subst (λ l. Settles rules bytes c.args.token c.args.stack.now c.args.state.now l c.loop-symbol.state) popped (c.loop-symbol.invariant bytes)))
+
+pub loop-symbol-smaller-in-Continue-1 : goal.loop-symbol-smaller-in-Continue-1
+loop-symbol-smaller-in-Continue-1 g c =
+    let rules = g.S.TextState.rules in
+    let popped = c.in-Some.ensures ∙ ap (λ top. top ∷ c.pop.new.self) c.in-Rule.is in
+    let less = less_rule rules g.met.S.TextState.readable c.in-Rule.rule (rules.lookahead.choice c.in-Rule.rule c.args.token) c.production.result.now c.pop.new.self c.production.ensures in
+    subst (λ l. effort rules l < effort rules c.loop-symbol.stack) (sym c.in_ok-push_all-in-Rule.ensures)
+    (subst (λ l. effort rules (c.production.result.now ++ c.pop.new.self) < effort rules l) (sym popped) less)
+
+pub loop-symbol-smaller : goal.loop-symbol-smaller
+loop-symbol-smaller g c =
+    let rules = g.S.TextState.rules in
+    let popped = c.in-Some.ensures ∙ ap (λ top. top ∷ c.pop.new.self) c.in-Action.is in
+    let less = less_action rules g.met.S.TextState.readable c.in-Action.action c.pop.new.self in
+    subst (λ l. effort rules c.pop.new.self < effort rules l) (sym popped) less
+
+pub perform-requires : goal.perform-requires
+perform-requires g c =
+    let few = no_larger g.S.TextState.rules g.met.S.TextState.readable (c.loop-symbol.invariant []) in
+    let limit = c.requires.room in
+    omega arith

@@ -1,0 +1,6 @@
+pub mod Rules
+pub mod Effort
+pub mod Reading
+pub mod Refused
+pub mod Words
+pub mod Readable
