@@ -27,7 +27,7 @@ use Rattle.part_meaning.specs.Part.{IsReadTo, IsRefused, bad_token}
 use Rattle.token_reader.specs.Rules.{Rules, IsReadable, Accepts, language, unexpected}
 use Rattle.token_reader.specs.Reading.{paired, Closes, Settles, here as settled_here, rule, action, IsReading, left, on_top}
 use Rattle.token_reader.specs.Refused.{IsRefusedOr}
-use Rattle.token_reader.proofs.Tokens.{goes_on, led_text, led_within, paired_on, IsAmong, last_listed, last_among, inner_among, last_pairs}
+use Rattle.token_reader.proofs.Tokens.{goes_on, led_text, led_within, led_far, length_paired, paired_on, IsAmong, last_listed, last_among, inner_among, last_pairs}
 
 -- ---- what a call of the lexer says
 
@@ -68,13 +68,6 @@ module _ {W R D S : Type 0} (rules : Rules W R D S) (ok : IsReadable rules) wher
   closes_rest k w rest (inl none) = subst (λ l. Closes rules k l) (sym none) tt
   closes_rest k w rest (inr more) = more.1
 
-  -- ---- actions add nothing
-
-  pub no_larger : {bytes : List ℕ} {seen : Seen} {stack : Symbols} {a : S} {out : Symbols} {b : S} → Settles rules bytes seen stack a out b → rules.size b ≤ rules.size a
-  no_larger settled_here = omega arith
-  no_larger (rule go chosen) = no_larger go
-  no_larger {bytes = bytes} (action {d = d} {a = now} go) = let more = no_larger go in let less = ok.no_more bytes d now in omega arith
-
   never : (b : Bool) → not b ≡ true → b ≡ true → ⊥
   never true e f = cc
   never false e f = cc
@@ -105,7 +98,6 @@ module _ {W R D S : Type 0} (rules : Rules W R D S) (ok : IsReadable rules) wher
       next_given = more;
       moved = moved;
       stands = stands_start rules.table rules.lookahead (rules.semantics bytes) ok.right rules.text first (pair x y) ok.fits;
-      few = omega arith;
       closes = closes_text;
     }
 
@@ -120,7 +112,6 @@ module _ {W R D S : Type 0} (rules : Rules W R D S) (ok : IsReadable rules) wher
       next_given = r.next_given;
       moved = r.moved;
       stands = stands_action rules.table rules.lookahead (rules.semantics bytes) ok.right rules.text first r.stands;
-      few = let few = r.few in let less = ok.no_more bytes d a in omega arith;
       closes = r.closes;
     }
 
@@ -135,7 +126,6 @@ module _ {W R D S : Type 0} (rules : Rules W R D S) (ok : IsReadable rules) wher
       moved = r.moved;
       stands = stands_rule rules.table rules.lookahead (rules.semantics bytes) ok.right rules.text first r.stands
           (subst (λ k. production_at (rules.table.productions q) (rules.lookahead.choice q k) ≡ Some body) (sym (ok.kinds bytes (pair x y))) chosen);
-      few = r.few;
       closes = λ last is. closes_append (kind_of bytes last) body stack
           (all_at (λ s. Stopped (kind_of bytes last) s) (rules.table.productions q) (rules.lookahead.choice q (kind_of bytes x)) body ((ok.last bytes last is).inside q) chosen)
           (r.closes last is);
@@ -163,10 +153,19 @@ module _ {W R D S : Type 0} (rules : Rules W R D S) (ok : IsReadable rules) wher
 
     pub room : (now : Cursor) (x y : Lexed) (stack : Symbols) (a : S) → Reading now x y stack a → rules.size a ≤ rules.size first + length bytes
     room now x y stack a r =
-        let few = r.few in
+        let bound = ok.bounded bytes first a (paired r.before x) stack r.stands.reads in
+        let long = length_paired r.before x in
+        let far = led_far r.leads in
         let within = led_within r.leads (omega arith) in
         let size = ap length (led_text r.leads) in
         omega arith
+
+    -- and so on the way to a terminal
+    pub room_settled : (now : Cursor) (x y : Lexed) (stack : Symbols) (a : S) (seen : Seen) → Reading now x y stack a → seen ≡ kind_of now.text x
+        → (out : Symbols) (b : S) → Settles rules now.text seen stack a out b → rules.size b ≤ rules.size first + length bytes
+    room_settled now x y stack a seen r is out b go =
+        let there = subst (λ t. Settles rules t (kind_of t x) stack a out b) (text_of now x y stack a r) (subst (λ k. Settles rules now.text k stack a out b) is go) in
+        room now x y out b (settled now x y r there)
 
     -- what is on top of the stack
     pub found : (now : Cursor) (x y : Lexed) (stack out : Symbols) (a b : S) (seen : Seen) (top : Option W) (w : W) → Reading now x y stack a
@@ -207,12 +206,6 @@ module _ {W R D S : Type 0} (rules : Rules W R D S) (ok : IsReadable rules) wher
           next_given = subst (λ c. IsGiven c z) r.moved given;
           moved = moved ∙ ap (λ c. past c z) r.moved;
           stands = subst (λ l. Stands rules.table rules.lookahead (rules.semantics bytes) rules.text first l (pair y z) stack b) (sym (paired_on r.before x y)) stood;
-          few =
-              let few = r.few in
-              let grown = ok.one_more bytes w a b (pair x y) sees took in
-              let goes = goes_on r.at x r.given more in
-              let further = goes.further in
-              omega arith;
           closes = λ last is. closes_rest (kind_of bytes last) w stack (r.closes last is);
         }
 

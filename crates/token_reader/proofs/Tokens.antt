@@ -1,5 +1,5 @@
 -- The lexer's tokens, each with the next one.
-use Rattle.std.proofs.Common.{◌≡◌, ◌-◌, ◌<◌, ◌≤◌, true, false, cond, List, [], ◌∷◌, ◌++◌, length, drop, get_or, Ok, Err, refl, sym, ◌∙◌, ap, subst, arith, append_assoc}
+use Rattle.std.proofs.Common.{◌≡◌, suc, ◌+◌, ◌-◌, ◌<◌, ◌≤◌, true, false, cond, List, [], ◌∷◌, ◌++◌, length, drop, get_or, Ok, Err, refl, sym, ◌∙◌, ap, subst, arith, append_assoc}
 use Rattle.std.proofs.lemmas.Bool.{false≢true}
 use Rattle.grammar.specs.Ahead.{WithNext, with_next}
 use Rattle.text_lexer.specs.declared.token.TokenKind.{TokenKind}
@@ -52,7 +52,20 @@ led_within (on {cursor = c} {x = x} given more go) within =
     let most = goes.within in
     led_within go (omega arith)
 
+-- each token takes a byte
+pub led_far : {c at : Cursor} {xs : List Lexed} → Leads c xs at → c.at + length xs ≤ at.at
+led_far here = omega arith
+led_far (on {cursor = c} {x = x} given more go) =
+    let goes = goes_on c x given more in
+    let further = goes.further in
+    let rest = led_far go in
+    omega arith
+
 -- ---- pairs
+
+pub length_paired : {A : Type 0} (xs : List A) (x : A) → length (paired xs x) ≡ length xs
+length_paired [] x = refl
+length_paired (y ∷ xs) x = ap suc (length_paired xs x)
 
 head_or : {A : Type 0} (xs : List A) (x y z : A) → get_or (xs ++ x ∷ []) 0 y ≡ get_or xs 0 x
 head_or [] x y z = refl

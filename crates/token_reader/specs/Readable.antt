@@ -1,7 +1,10 @@
 -- The small language can be read.
-use Rattle.std.proofs.Common.{◌≡◌, ℕ, ◌+◌, ◌≤◌, ◌==◌, Bool, true, false, List, [], ◌∷◌, Some, Ok, Err, slice_range, refl, subst, arith}
+use Rattle.std.proofs.Common.{◌≡◌, ℕ, ◌+◌, ◌≤◌, ◌==◌, Bool, true, false, List, [], ◌∷◌, length, Some, Ok, Err, slice_range, refl, subst, arith}
 use Rattle.std.proofs.lemmas.Bool.{false≢true}
+use Rattle.grammar.specs.declared.symbol.Symbol.{Symbol}
 use Rattle.grammar.specs.declared.symbol.Symbol.TheVariants as s
+use Rattle.grammar.specs.Ahead.{WithNext}
+use Rattle.grammar.specs.Semantics.{Reads, here, terminal, rule, action}
 use Rattle.grammar.specs.Ends.{IsLast, Blocks, rule_stops}
 use Rattle.grammar.specs.Machine.{Fits, IsRight}
 use Rattle.grammar.specs.Table.{production_at}
@@ -66,6 +69,12 @@ one_more : (w : Bool) (a b : ℕ) (x : Lexed) → accept w a x ≡ Ok b → b �
 one_more w a b (Ok x) took = one_more_token w a b x took
 one_more w a b (Err bad) took = cc
 
+bounded : (bytes : List ℕ) {symbols out : List (Symbol Bool (Unit {0}) (Unit {0}))} {a b : ℕ} {xs : List (WithNext Lexed)} → Reads table (semantics bytes) symbols a xs out b → b ≤ a + length xs
+bounded bytes here = omega arith
+bounded bytes (terminal {w = w} {x = x} {a = a} {b = b} sees took go) = let rest = bounded bytes go in let more = one_more w a b x.token took in omega arith
+bounded bytes (rule i at go) = bounded bytes go
+bounded bytes (action go) = bounded bytes go
+
 none_blocked : (bytes : List ℕ) → Blocks (semantics bytes) (λ w. false)
 none_blocked bytes w a b x shut took = cc
 
@@ -79,6 +88,5 @@ readable = record {
   no_token = no_token;
   kinds = λ bytes x. refl;
   not_allowed = λ bytes x. refl;
-  one_more = λ bytes w a b x sees took. one_more w a b x.token took;
-  no_more = λ bytes d a. omega arith;
+  bounded = λ bytes first a xs out reads. bounded bytes reads;
 }

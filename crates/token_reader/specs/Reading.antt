@@ -1,5 +1,5 @@
 -- Where the reader stands.
-use Rattle.std.specs.Prelude.{◌≡◌, ◌⊎◌, ℕ, suc, ◌+◌, ◌-◌, ◌≤◌, true, not, ◌||◌, List, [], ◌∷◌, ◌++◌, length, get_or, if◌then◌else◌, Option, Some, None}
+use Rattle.std.specs.Prelude.{◌≡◌, ◌⊎◌, ℕ, suc, ◌-◌, true, not, ◌||◌, List, [], ◌∷◌, ◌++◌, length, get_or, if◌then◌else◌, Option, Some, None}
 use Rattle.grammar.specs.declared.symbol.Symbol.{Symbol}
 use Rattle.grammar.specs.declared.symbol.Symbol.TheVariants.{Terminal, Rule, Action}
 use Rattle.grammar.specs.Ahead.{WithNext}
@@ -43,7 +43,6 @@ module _ {W R D S : Type 0} (rules : Rules W R D S) where
     pub next_given : IsGiven (past at token) next
     pub moved : now ≡ past (past at token) next
     pub stands : Stands rules.table rules.lookahead (rules.semantics bytes) rules.text first (paired before token) (record { token = token; next = next }) stack state
-    pub few : rules.size state ≤ rules.size first + at.at
     pub closes : (x : Lexed) → is_last x ≡ true → Closes (kind_of bytes x) stack
 
 -- the terminal that was found on top, or none where the stack is empty

@@ -1,12 +1,12 @@
 -- A language as the reader takes it.
-use Rattle.std.specs.Prelude.{◌≡◌, ℕ, ◌+◌, ◌≤◌, Bool, true, false, List, Result, Ok, Err}
+use Rattle.std.specs.Prelude.{◌≡◌, ℕ, ◌+◌, ◌≤◌, Bool, true, false, List, length, Result, Ok, Err}
 use Rattle.grammar.specs.declared.symbol.Symbol.{Symbol}
 use Rattle.grammar.specs.Ahead.{WithNext}
 use Rattle.grammar.specs.Descent.{LeadsDown}
 use Rattle.grammar.specs.Ends.{IsLast, Blocks}
 use Rattle.grammar.specs.Lookahead.{Lookahead}
 use Rattle.grammar.specs.Machine.{IsRight, Fits}
-use Rattle.grammar.specs.Semantics.{Semantics}
+use Rattle.grammar.specs.Semantics.{Semantics, Reads}
 use Rattle.grammar.specs.Table.{Table}
 use Rattle.text_lexer.specs.Tokens.{Lexed, is_last}
 use Rattle.text_grammar.specs.declared.kind.Seen.{Seen}
@@ -44,7 +44,8 @@ unexpected (Ok x) = Bad Unexpected (record { line = x.line; column = x.column })
 unexpected (Err bad) = Bad BadToken (record { line = bad.line; column = bad.column })
 
 -- What the rules have to meet: one token of lookahead decides; before a token is taken, each rule leads to lower ones
--- alone; no terminal takes the last token but the one that closes a text; and none takes what is no token.
+-- alone; no terminal takes the last token but the one that closes a text; none takes what is no token; and where
+-- tokens of a text lead to a state, it is larger by one for each of them at the most.
 pub record IsReadable {W R D S : Type 0} (rules : Rules W R D S) : Type 0 where
   pub right : IsRight rules.table rules.lookahead
   pub fits : Fits rules.table rules.lookahead rules.text
@@ -54,9 +55,8 @@ pub record IsReadable {W R D S : Type 0} (rules : Rules W R D S) : Type 0 where
   pub no_token : (w : W) → rules.table.matches w bad_seen ≡ false
   pub kinds : (bytes : List ℕ) (x : WithNext Lexed) → (rules.semantics bytes).kind x ≡ kind_of bytes x.token
   pub not_allowed : (bytes : List ℕ) (x : WithNext Lexed) → (rules.semantics bytes).unexpected x ≡ unexpected x.token
-  pub one_more : (bytes : List ℕ) (w : W) (a b : S) (x : WithNext Lexed) → rules.table.matches w (kind_of bytes x.token) ≡ true
-      → (rules.semantics bytes).accept w a x ≡ Ok b → rules.size b ≤ rules.size a + 1
-  pub no_more : (bytes : List ℕ) (d : D) (a : S) → rules.size ((rules.semantics bytes).perform d a) ≤ rules.size a
+  pub bounded : (bytes : List ℕ) (first a : S) (xs : List (WithNext Lexed)) (out : List (Symbol W R D)) → Reads rules.table (rules.semantics bytes) rules.text first xs out a
+      → rules.size a ≤ rules.size first + length xs
 
 -- the answer and the state that it leaves are the outcome, but for want of memory
 abbrev pub Accepts : {S : Type 0} → Result S Refusal → Result (Unit {0}) Refusal → S → Type 0

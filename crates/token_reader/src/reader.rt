@@ -55,11 +55,12 @@ fn settle<
     S: TextState<W, R, D>,
 >(
     alloc: Global,
+    lexer: &Lexer<'_>,
     token: Seen,
     stack: &mut Stack<Symbol<W, R, D>>,
     state: &mut S,
 ) -> Result<Option<W>, AllocError>
-    requires room { S.rules.size state.old < 2 ^ 31 }
+    requires room { (out : List (Symbol W R D)) (b : S) → Settles S.rules lexer.now.text token stack.old state.old out b → S.rules.size b < 2 ^ 31 }
     ensures { IfOk result (λ top. (bytes : List ℕ) → Settles S.rules bytes token stack.old state.old (on_top top stack.new) state.new) }
 {
     while let Some(symbol) = stack.pop() {
@@ -90,7 +91,13 @@ pub fn read<
     let mut stack = Stack::new(alloc);
     stack.push_all(S::whole_text())?;
     let mut state = first;
-    while let Some(terminal) = settle(alloc, kind_of(&lexer, token), &mut stack, &mut state)? {
+    while let Some(terminal) = settle(
+        alloc,
+        &lexer,
+        kind_of(&lexer, token),
+        &mut stack,
+        &mut state,
+    )? {
         let Ok(taken) = token else {
             return Err(unexpected(token));
         };

@@ -8,7 +8,7 @@ use Rattle.text_grammar.specs.Kind.{kind_of}
 use Rattle.token_reader.specs.Rules.{Accepts, language}
 use Rattle.token_reader.specs.Reading.{IsReading, left}
 use Rattle.token_reader.specs.Refused.{IsRefusedOr}
-use Rattle.token_reader.proofs.Steps.{given_of, past_of, at_start, found, none_found, sees_at, bad_sees, text_of, token_of, room, at_terminal, fewer_left, at_end, bad_terminal, bad_end, bad_check}
+use Rattle.token_reader.proofs.Steps.{given_of, past_of, at_start, found, none_found, sees_at, bad_sees, text_of, token_of, room, room_settled, at_terminal, fewer_left, at_end, bad_terminal, bad_end, bad_check}
 use Rattle.token_reader.proofs.reader.read.Goals as goal
 
 pub loop-state-init : goal.loop-state-init
@@ -221,6 +221,7 @@ loop-state-smaller g c =
 pub settle-requires-clause-room : goal.settle-requires-clause-room
 settle-requires-clause-room g c =
     let s = c.loop-state in
-    let few = room g.S.TextState.rules g.met.S.TextState.readable c.args.text.now c.args.first_line c.args.first s.lexer s.token s.next s.stack s.state s.invariant in
+    λ loans within out b go.
+    let few = room_settled g.S.TextState.rules g.met.S.TextState.readable c.args.text.now c.args.first_line c.args.first s.lexer s.token s.next s.stack s.state c.kind_of.result s.invariant c.kind_of.ensures out b go in
     let limit = c.requires.room in
     omega arith

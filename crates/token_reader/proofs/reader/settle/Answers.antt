@@ -1,8 +1,7 @@
-use Rattle.std.proofs.Common.{◌<◌, [], ◌∷◌, ◌++◌, sym, ◌∙◌, ap, subst, arith}
+use Rattle.std.proofs.Common.{◌<◌, ◌∷◌, ◌++◌, sym, ◌∙◌, ap, subst}
 use Rattle.token_reader.specs.Reading.{Settles, here, rule, action}
 use Rattle.token_reader.specs.Effort.{effort}
 use Rattle.token_reader.proofs.Effort.{less_rule, less_action}
-use Rattle.token_reader.proofs.Steps.{no_larger}
 use Rattle.token_reader.proofs.reader.settle.Goals as goal
 
 pub loop-symbol-init : goal.loop-symbol-init
@@ -40,7 +39,4 @@ loop-symbol-smaller g c =
     subst (λ l. effort rules c.pop.new.self < effort rules l) (sym popped) less
 
 pub perform-requires : goal.perform-requires
-perform-requires g c =
-    let few = no_larger g.S.TextState.rules g.met.S.TextState.readable (c.loop-symbol.invariant []) in
-    let limit = c.requires.room in
-    omega arith
+perform-requires g c = c.requires.room c.loop-symbol.stack c.loop-symbol.state (c.loop-symbol.invariant c.args.lexer.now.text)
