@@ -10,10 +10,10 @@ use Rattle.text_grammar.proofs.Closed.{reads_closed}
 use Rattle.component_items.specs.declared.refusal.Refusal.{Refusal}
 use Rattle.component_items.specs.declared.refusal.Refusal.TheVariants.{Bad}
 use Rattle.component_items.specs.declared.refusal.Why.TheVariants as why
-use Rattle.part_meaning.specs.Part.{IsReadTo}
+use Rattle.part_meaning.specs.Part.{IsReadTo, unexpected}
 use Rattle.component_meaning.specs.Checks.{place_at, unclosed}
 use Rattle.component_meaning.specs.Component.{component_text}
-use Rattle.component_meaning.specs.Meaning.{semantics, accept_token, unexpected}
+use Rattle.component_meaning.specs.Meaning.{semantics, accept_token}
 use Rattle.component_meaning.specs.State.{State}
 
 refused : (bytes : List ℕ) (a : State) (x next : Lexed) → (e : Refusal) × (accept_token bytes terminal.Closer a x next ≡ Err e)

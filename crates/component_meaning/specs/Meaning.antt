@@ -10,17 +10,11 @@ use Rattle.text_grammar.specs.declared.component.Terminal.{Terminal}
 use Rattle.text_grammar.specs.Kind.{kind_of}
 use Rattle.component_items.specs.declared.refusal.Refusal.{Refusal}
 use Rattle.component_items.specs.declared.refusal.Refusal.TheVariants.{Bad}
-use Rattle.component_items.specs.declared.refusal.Why.TheVariants as why
+use Rattle.part_meaning.specs.Part.{unexpected}
 use Rattle.component_meaning.specs.State.{State}
-use Rattle.component_meaning.specs.Names.{place_of}
 use Rattle.component_meaning.specs.Checks.{Check, why_of, place_at, failed}
 use Rattle.component_meaning.specs.Effects.{effect}
 use Rattle.component_meaning.specs.Actions.{perform}
-
--- a token that is not allowed where it stands, and what is no token
-abbrev pub unexpected : Lexed → Refusal
-unexpected (Ok x) = Bad why.Unexpected (place_of x)
-unexpected (Err bad) = Bad why.BadToken (record { line = bad.line; column = bad.column })
 
 abbrev pub judged : List ℕ → Terminal → State → Token → Lexed → Option Check → Result State Refusal
 judged text t a x next None = Ok (effect text t a x)

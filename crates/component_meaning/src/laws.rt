@@ -1,6 +1,6 @@
 //! What follows from the definitions alone.
 
-ghost use Rattle.std.specs.Prelude.{◌≡◌, ◌⊎◌, ◌++◌, ◌∷◌, [], ℕ, ◌≤◌, ◌<◌, List, Some, codes};
+ghost use Rattle.std.specs.Prelude.{◌≡◌, ◌⊎◌, ◌++◌, ◌∷◌, [], ℕ, ◌≤◌, ◌<◌, List, Some, None, true, false, length, codes};
 ghost use Rattle.grammar.specs.Ahead.{with_next};
 ghost use Rattle.grammar.specs.Meaning.{Means};
 ghost use Rattle.text_grammar.specs.Closed.{closed_table, RefusesClosers};
@@ -11,7 +11,11 @@ ghost use Rattle.component_items.specs.Counts.{nodes_of};
 ghost use Rattle.component_meaning.specs.Component.{component_text, IsComponent, IsNoComponent, too_many_nodes};
 ghost use Rattle.component_meaning.specs.Computed.{read_of, refusal_of};
 ghost use Rattle.component_meaning.specs.Meaning.{semantics};
-ghost use Rattle.component_meaning.specs.State.{State};
+ghost use Rattle.component_meaning.specs.Checks.{fails_owners};
+ghost use Rattle.component_meaning.specs.Names.{is_full};
+ghost use Rattle.component_meaning.specs.State.{State, start};
+ghost use Rattle.values.specs.Texts.{index_of};
+ghost use Rattle.text_grammar.specs.declared.component.Terminal.TheVariants.{NewArea};
 ghost use Rattle.component_meaning.specs.Worked.{RefusedAt};
 
 use component_items::Why;
@@ -52,4 +56,14 @@ pub fn outcome_is_meaning()
     ensures component { (bytes : List ℕ) (component : ComponentValue) → read_of bytes ≡ Some component → nodes_of component.items ≤ 4096 → IsComponent bytes component }
     ensures refused { (bytes : List ℕ) (why : Refusal) → refusal_of bytes ≡ Some why → IsNoComponent bytes why }
     ensures too_large { (bytes : List ℕ) (component : ComponentValue) → read_of bytes ≡ Some component → 4096 < nodes_of component.items → IsNoComponent bytes (too_many_nodes bytes) }
+{}
+
+/// Both sides of the limits that are too large for a worked text: 1,023 areas and no more may be declared, and a
+/// table has room for 65,536 texts and no more.
+pub fn limits_of_large_texts()
+    ensures area { fails_owners NewArea (record start { next_owner = 1023 }) ≡ false }
+    ensures no_area { fails_owners NewArea (record start { next_owner = 1024 }) ≡ true }
+    ensures text { (text : List ℕ) (texts : List (List ℕ)) → length texts ≡ 65535 → is_full text texts ≡ false }
+    ensures no_text { (text : List ℕ) (texts : List (List ℕ)) → length texts ≡ 65536 → index_of text texts ≡ None → is_full text texts ≡ true }
+    ensures same_text { (text : List ℕ) (texts : List (List ℕ)) (n : ℕ) → index_of text texts ≡ Some n → is_full text texts ≡ false }
 {}

@@ -13,8 +13,8 @@ pub use kept::{
     owners_are_few, stores_and_resources_have_their_shape, texts_are_in_the_table,
 };
 pub use laws::{
-    bad_utf8, closers_never_pass, never_both, one_component, one_of_both, one_refusal,
-    outcome_is_meaning,
+    bad_utf8, closers_never_pass, limits_of_large_texts, never_both, one_component, one_of_both,
+    one_refusal, outcome_is_meaning,
 };
 pub use refused::{
     forbidden_tags, great_numbers, keys_taken, limits, names_not_seen, names_taken, too_many_nodes,

@@ -1,5 +1,5 @@
 -- Parts of the input: the bytes that mean something in a language, and why the others are refused.
-use Rattle.std.specs.Prelude.{◌≡◌, ℕ, Bool, true, List}
+use Rattle.std.specs.Prelude.{◌≡◌, ℕ, Bool, true, List, Ok, Err}
 use Rattle.std.specs.Str.{IsUtf8, IsValidUpTo}
 use Rattle.grammar.specs.declared.symbol.Symbol.{Symbol}
 use Rattle.grammar.specs.Ahead.{WithNext, with_next}
@@ -17,7 +17,7 @@ use Rattle.text_grammar.specs.declared.kind.Seen.{Seen}
 use Rattle.text_grammar.specs.Kind.{kind_of}
 use Rattle.component_items.specs.declared.refusal.Refusal.{Refusal}
 use Rattle.component_items.specs.declared.refusal.Refusal.TheVariants.{Bad}
-use Rattle.component_items.specs.declared.refusal.Why.TheVariants.{BadUtf8}
+use Rattle.component_items.specs.declared.refusal.Why.TheVariants.{BadUtf8, BadToken, Unexpected}
 
 -- A language: its grammar, what one token ahead tells about it, a whole text, what the tokens of these bytes mean,
 -- the state before the first token, and the number of the first line.
@@ -28,6 +28,11 @@ pub record Language (W R D S : Type 0) : Type 0 where
   pub semantics : List ℕ → Semantics W D Seen (WithNext Lexed) S Refusal
   pub start : S
   pub first_line : ℕ
+
+-- a token that the grammar does not allow where it stands, and what is no token
+abbrev pub unexpected : Lexed → Refusal
+unexpected (Ok x) = Bad Unexpected (record { line = x.line; column = x.column })
+unexpected (Err bad) = Bad BadToken (record { line = bad.line; column = bad.column })
 
 -- one token of lookahead decides, and each text has an end
 pub record IsDecided {W R D S : Type 0} (l : Language W R D S) : Type 0 where

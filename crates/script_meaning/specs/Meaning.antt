@@ -10,7 +10,7 @@ use Rattle.text_grammar.specs.declared.script.Terminal.{Terminal}
 use Rattle.text_grammar.specs.Kind.{kind_of}
 use Rattle.component_items.specs.declared.refusal.Refusal.{Refusal}
 use Rattle.component_items.specs.declared.refusal.Refusal.TheVariants.{Bad}
-use Rattle.component_meaning.specs.Meaning.{unexpected}
+use Rattle.part_meaning.specs.Part.{unexpected}
 use Rattle.component_meaning.specs.Names.{place_of}
 use Rattle.script_meaning.specs.State.{State}
 use Rattle.script_meaning.specs.Checks.{Check, why_of, failed}

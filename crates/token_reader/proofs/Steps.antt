@@ -23,8 +23,8 @@ use Rattle.text_grammar.specs.declared.kind.Seen.{Seen}
 use Rattle.text_grammar.specs.Kind.{kind_of}
 use Rattle.component_items.specs.declared.refusal.Refusal.{Refusal}
 use Rattle.component_items.specs.declared.refusal.Refusal.TheVariants.{Bad, NoMemory}
-use Rattle.part_meaning.specs.Part.{IsReadTo, IsRefused, bad_token}
-use Rattle.token_reader.specs.Rules.{Rules, IsReadable, Accepts, language, unexpected}
+use Rattle.part_meaning.specs.Part.{IsReadTo, IsRefused, bad_token, unexpected}
+use Rattle.token_reader.specs.Rules.{Rules, IsReadable, Accepts, language}
 use Rattle.token_reader.specs.Reading.{paired, Closes, Settles, here as settled_here, rule, action, IsReading, left, on_top}
 use Rattle.token_reader.specs.Refused.{IsRefusedOr}
 use Rattle.token_reader.proofs.Tokens.{goes_on, led_text, led_within, led_far, length_paired, paired_on, IsAmong, last_listed, last_among, inner_among, last_pairs}

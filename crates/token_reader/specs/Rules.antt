@@ -13,8 +13,7 @@ use Rattle.text_grammar.specs.declared.kind.Seen.{Seen}
 use Rattle.text_grammar.specs.Kind.{kind_of, bad_seen}
 use Rattle.component_items.specs.declared.refusal.Refusal.{Refusal}
 use Rattle.component_items.specs.declared.refusal.Refusal.TheVariants.{Bad, NoMemory}
-use Rattle.component_items.specs.declared.refusal.Why.TheVariants.{Unexpected, BadToken}
-use Rattle.part_meaning.specs.Part.{Language}
+use Rattle.part_meaning.specs.Part.{Language, unexpected}
 
 -- A language but for its first state and first line. Each rule has a level, and each state a size, which grows with the
 -- tokens that are taken. A terminal that is blocked takes no token.
@@ -37,11 +36,6 @@ language rules first first_line = record {
   start = first;
   first_line = first_line;
 }
-
--- why what the grammar does not allow at its place is refused
-abbrev pub unexpected : Lexed → Refusal
-unexpected (Ok x) = Bad Unexpected (record { line = x.line; column = x.column })
-unexpected (Err bad) = Bad BadToken (record { line = bad.line; column = bad.column })
 
 -- What the rules have to meet: one token of lookahead decides; before a token is taken, each rule leads to lower ones
 -- alone; no terminal takes the last token but the one that closes a text; none takes what is no token; and where

@@ -16,7 +16,8 @@ use Rattle.text_grammar.specs.Kind.{kind_of}
 use Rattle.component_items.specs.declared.refusal.Refusal.{Refusal}
 use Rattle.component_items.specs.declared.refusal.Refusal.TheVariants.{Bad}
 use Rattle.component_items.specs.declared.refusal.Why.TheVariants.{TooDeep}
-use Rattle.token_reader.specs.Rules.{Rules, unexpected}
+use Rattle.part_meaning.specs.Part.{unexpected}
+use Rattle.token_reader.specs.Rules.{Rules}
 
 -- a terminal is a name, or the end
 abbrev pub class_of : Bool → Class

@@ -2,7 +2,7 @@
 
 ghost use Rattle.std.specs.Prelude.{◌≡◌, ◌+◌, ◌<◌, ◌^◌, ℕ, List, IfOk, IfErr, Ok, length};
 ghost use Rattle.text_lexer.specs.Tokens.{is_last};
-ghost use Rattle.part_meaning.specs.Part.{IsReadTo};
+ghost use Rattle.part_meaning.specs.Part.{IsReadTo, unexpected as unexpected_at};
 ghost use Rattle.token_reader.specs.Rules as spec;
 ghost use Rattle.token_reader.specs.Reading.{Settles, on_top};
 ghost use Rattle.token_reader.specs.Refused.{IsRefusedOr};
@@ -16,7 +16,7 @@ use text_lexer::{BadToken, Lexer, Token, TokenKind};
 
 /// The refusal of what the grammar does not allow at its place.
 fn unexpected(token: Result<Token, BadToken>) -> Refusal
-    ensures { result ≡ spec.unexpected token }
+    ensures { result ≡ unexpected_at token }
 {
     match token {
         Ok(token) => {
