@@ -1,4 +1,0 @@
-pub mod Given
-pub mod Effort
-pub mod Steps
-pub mod OneText

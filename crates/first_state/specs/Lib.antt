@@ -1,4 +1,0 @@
-pub mod Scope
-pub mod State
-pub mod Meaning
-pub mod Accepts
