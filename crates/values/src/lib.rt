@@ -4,6 +4,7 @@
 mod code;
 mod expr;
 pub mod laws;
+pub mod limits;
 mod memory;
 mod packing;
 mod plan;
