@@ -3,7 +3,7 @@ ghost use Rattle.std.specs.Prelude.{◌≡◌};
 ghost use Rattle.values.specs.Evaluation.{truth, number_of, combined};
 
 /// A value: nothing, a number, or a text by its index in a table of texts.
-#[derive(Clone, Copy, Debug, PartialEq, Eq)]
+#[derive(Clone, Copy, Debug, PartialEq, Eq, Hash)]
 pub enum Code {
     Empty,
     Number(i32),

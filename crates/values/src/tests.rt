@@ -1,6 +1,7 @@
 //! Worked rows, and each call once.
 
 use crate::{Code, Expr, Numbers, Op, Texts, Tried, attempt};
+use indexmap::{IndexMap, IndexSet};
 use sqlite_items::Boxed;
 use std::alloc::{AllocError, Global};
 use std::test::Fail;
@@ -99,5 +100,20 @@ fn a_sequence_grows_at_its_end(rt: HostRuntime) -> Result<(), Fail> {
     assert_eq!(rt; numbers.at(2), None);
     let again = Numbers::from_vec(numbers.into_vec());
     assert_eq!(rt; again.as_slice(), [7, 9].as_slice());
+    Ok(())
+}
+
+#[test]
+fn values_are_the_keys_of_sets_and_maps(rt: HostRuntime) -> Result<(), Fail> {
+    let mut keys = IndexSet::new(rt.alloc());
+    let mut counts = IndexMap::new(rt.alloc());
+    for (code, place) in [(Code::Number(1), 0), (Code::Word(1), 1), (Code::Empty, 2)] {
+        assert!(rt; keys.insert(code)?);
+        counts.insert(code, place)?;
+    }
+    assert!(rt; !keys.insert(Code::Word(1))?);
+    assert_eq!(rt; keys.get_index_of(&Code::Empty), Some(2));
+    assert_eq!(rt; counts.get(&Code::Word(1)), Some(&1));
+    assert_eq!(rt; counts.get(&Code::Word(0)), None);
     Ok(())
 }
