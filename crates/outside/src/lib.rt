@@ -4,12 +4,14 @@
 
 mod counts;
 mod delays;
+mod failing_loader;
 mod memory;
 mod std_streams;
 mod traits;
 mod transfer;
 
 pub use delays::{Delays, OpenGate};
+pub use failing_loader::FailingLoader;
 pub use memory::{MemorySink, MemorySource};
 pub use std_streams::{StdSink, StdSource};
 pub use traits::{Arrival, Failed, Gate, Loader, Sink, Source};

@@ -1,12 +1,12 @@
 //! A source and a sink in memory, which move bytes in pieces and fail at chosen calls.
 
-ghost use Rattle.std.specs.Prelude.{◌≡◌, ◌<◌, ◌≤◌, ◌↔◌, ◌++◌, [], IfOk, OnErr, IsErr, IsTrue, Contains, length, take, drop};
+ghost use Rattle.std.specs.Prelude.{◌≡◌, ◌<◌, ◌≤◌, ◌↔◌, ◌++◌, [], IfOk, OnErr, IsErr, IsTrue, length, take, drop};
 ghost use Rattle.std.specs.Io.KnownBytes.{Appends, Consumes, Keeps};
 ghost use Rattle.outside.specs.Bytes.{IsZeroAtEnd};
 ghost use Rattle.outside.specs.Counts.{NeverFalls, Rose};
 ghost use Rattle.outside.specs.Memory.{FailsNext, RefusesNext, after_failed_read, after_failed_write, after_read, after_write, given_count, taken_count};
 
-use crate::counts::next_count;
+use crate::counts::{is_among, next_count};
 use crate::traits::{Failed, Sink, Source};
 use std::alloc::Global;
 use std::marker::Model;
@@ -91,13 +91,6 @@ impl Source for MemorySource {
         self.position += count;
         Ok(count)
     }
-}
-
-/// Whether the number of a call is among those that fail.
-fn is_among(call: u64, fails: &[u32]) -> bool
-    ensures { IsTrue result ↔ Contains fails.now call }
-{
-    fails.iter().any(|fail| u64::from(*fail) == call)
 }
 
 /// A sink that keeps the bytes in memory.

@@ -1,8 +1,8 @@
 //! What no clause says: that calls succeed with ample memory, and worked rows.
 
 use crate::{
-    Arrival, Delays, Failed, Gate, Loader, MemorySink, MemorySource, OpenGate, ReadError, Sink,
-    Source, StdSink, StdSource, put, read_up_to,
+    Arrival, Delays, Failed, FailingLoader, Gate, Loader, MemorySink, MemorySource, OpenGate,
+    ReadError, Sink, Source, StdSink, StdSource, put, read_up_to,
 };
 use std::io::{self, ErrorKind, Read, Write};
 use std::test::Fail;
@@ -86,6 +86,22 @@ fn a_prompt_loader_counts_calls_and_an_open_gate_returns(rt: HostRuntime) {
         );
     }
     OpenGate.step(1, 1);
+}
+
+#[test]
+fn a_loader_fails_at_the_calls_that_were_chosen(rt: HostRuntime) -> Result<(), Fail> {
+    let mut loader = FailingLoader::new(vec![in rt.alloc(); 2, 4]?);
+    let table = [
+        (1, 0, Arrival::NotYet),
+        (1, 1, Arrival::Failed),
+        (1, 1, Arrival::Ready),
+        (0, 0, Arrival::Failed),
+        (0, 0, Arrival::Ready),
+    ];
+    for (after, asked, arrival) in table {
+        assert_eq!(rt; loader.ask(1, Code::Empty, after, asked), arrival);
+    }
+    Ok(())
 }
 
 /// Fails at its first call, and gives the rest of its bytes from then on.
