@@ -4,11 +4,11 @@ use Rattle.std.proofs.lemmas.Str.{IsUtf8-drop, IsCharBoundary-before_ascii, IsCh
 use Rattle.std.specs.Str.{IsUtf8, IsCharBoundary}
 use Rattle.std.specs.Option.{SomeIff}
 use Rattle.std.specs.Result.{OkIff, result_ok}
-use Rattle.std.proofs.lemmas.Bool.{and_parts, false≢true, ne_eqb, cond-false}
+use Rattle.std.proofs.lemmas.Bool.{and_parts, or_parts, false≢true, ne_eqb, cond-false}
 use Rattle.std.proofs.lemmas.Bool.Decides.{nat_tests}
 use Rattle.std.proofs.lemmas.List.{append_assoc, length-append, get_or_at, drop_at, drop_more, drop_all, length-drop, take-append-drop}
 use Rattle.std.proofs.lemmas.Str.Parse.{IsNumeralModel, numerals_by_fold}
-use Rattle.std.specs.List.{list_all, slice_range}
+use Rattle.std.specs.List.{list_all, list_any, slice_range}
 use Rattle.text_lexer.specs.Bytes.{is_digit}
 use Rattle.text_lexer.specs.Token.{is_escape, is_plain, is_text, is_text_rest, escape_value, unescaped, decimal_value, decimal_value_after}
 use Rattle.text_lexer.proofs.Tokens.{rest_plain, rest_last, text_ends}
@@ -36,6 +36,13 @@ pub unescaped_none : (bs : List ℕ) → ((i : ℕ) → i < length bs → get_or
 unescaped_none [] none = refl
 unescaped_none (b ∷ bs) none =
     unescaped_plain b bs (ne_eqb b 92 (none 0 (omega arith))) ∙ ap (λ v. b ∷ v) (unescaped_none bs (λ i l. none (suc i) (omega arith)))
+
+-- the same by the test
+pub unescaped_free : (bs : List ℕ) → list_any (λ b. eqb b 92) bs ≡ false → unescaped bs ≡ bs
+unescaped_free [] none = refl
+unescaped_free (b ∷ bs) none =
+    let parts = or_parts (eqb b 92) (list_any (λ c. eqb c 92) bs) none in
+    unescaped_plain b bs parts.0 ∙ ap (λ v. b ∷ v) (unescaped_free bs parts.1)
 
 -- the first backslash of content, and the byte that it stands before
 pub unescaped_first : (plain more : List ℕ) (b : ℕ) → ((i : ℕ) → i < length plain → get_or plain i 0 ≡ 92 → ⊥) → unescaped (plain ++ 92 ∷ b ∷ more) ≡ plain ++ escape_value b ∷ unescaped more

@@ -1,6 +1,6 @@
 -- What a token is, and which one stands at the front of a text.
 use Rattle.std.specs.Prelude.{◌≡◌, ◌≢◌, ℕ, ◌+◌, ◌-◌, ◌*◌, ◌≤◌, Bool, false, ◌==◌, ◌&&◌, ◌||◌, not, nat_le, List, [], ◌∷◌, length, take, drop, slice_index, slice_range, IsTrue, if◌then◌else◌, codes}
-use Rattle.std.specs.List.{list_all}
+use Rattle.std.specs.List.{list_all, list_any}
 use Rattle.text_lexer.specs.declared.token.Mark.{Mark}
 use Rattle.text_lexer.specs.declared.token.Mark.TheVariants.{ClosingTag, EqualTo, Arrow, Assign, Less, Greater, Slash, OpenBrace, CloseBrace, OpenParen, CloseParen, OpenBracket, CloseBracket, Dot, Plus, Minus, Star, Percent}
 use Rattle.text_lexer.specs.declared.token.Reserved.{Reserved}
@@ -100,6 +100,10 @@ unescaped (b ∷ c ∷ bs) = if b == 92 then escape_value c ∷ unescaped bs els
 -- the content of a text in its quotation marks
 abbrev pub content_of : List ℕ → List ℕ
 content_of bs = unescaped (slice_range bs 1 (length bs - 1))
+
+-- a backslash stands between the quotation marks
+abbrev pub has_escape : List ℕ → Bool
+has_escape bs = list_any (λ b. b == 92) (slice_range bs 1 (length bs - 1))
 
 -- Bytes that have the outer form of a token. The longest at a place is taken whole, and is then a token
 -- or a bad one: a word may be too long for a name, and digits may begin with a 0.

@@ -1,17 +1,18 @@
 //! The lexer, which gives one token after another.
 
-ghost use Rattle.std.specs.Prelude.{◌≡◌, ◌≢◌, ℕ, ◌+◌, ◌-◌, ◌^◌, ◌<◌, ◌≤◌, length, ◌==◌, if◌then◌else◌, slice_range, IfOk, IfErr, OnErr, SomeIff, IsTrue, ◌↔◌};
-ghost use Rattle.std.specs.String.{string_bytes};
+ghost use Rattle.std.specs.Prelude.{◌≡◌, ◌≢◌, ℕ, ◌+◌, ◌-◌, ◌^◌, ◌<◌, ◌≤◌, length, ◌==◌, if◌then◌else◌, slice_range, false, IsOk, IfOk, IfErr, OnErr, SomeIff, IsTrue, ◌↔◌};
+ghost use Rattle.std.specs.Cow.{cow_str_bytes};
 ghost use Rattle.text_lexer.specs.Cursor.{start_of};
 ghost use Rattle.text_lexer.specs.Place.{IsPlace};
 ghost use Rattle.text_lexer.specs.Lexing.{Skips, IsNext, IsBad, after};
-ghost use Rattle.text_lexer.specs.Token.{IsTokenOf, decimal_value, content_of};
+ghost use Rattle.text_lexer.specs.Token.{IsTokenOf, decimal_value, content_of, has_escape};
 
 use crate::bytes::{begins_token, comment_goes_on};
 use crate::lexeme::lexeme;
-use crate::meaning::{bytes_of, decimal, unescape, without_quotes};
+use crate::meaning::{bytes_of, decimal, has_escape, unescape, without_quotes};
 use crate::token::{BadToken, Token, TokenKind};
 use std::alloc::Global;
+use std::borrow::CowStr;
 use std::marker::Model;
 use values::NoMemory;
 
@@ -173,14 +174,21 @@ impl<'a> Lexer<'a> {
         decimal(self.slice(token))
     }
 
-    /// What a text says, with its escapes taken out.
-    pub fn content(&self, alloc: Global, token: &Token) -> Result<String, NoMemory>
+    /// What a text says, with its escapes taken out. A text with no escape says what stands between its
+    /// quotation marks, and no memory is needed for it.
+    pub fn content(&self, alloc: Global, token: &Token) -> Result<CowStr<'a>, NoMemory>
         requires of_text { IsTokenOf self.now.text token.now }
         requires text { token.now.kind ≡ TokenKind.Text }
-        ensures { IfOk result (λ s. string_bytes s
+        ensures content { IfOk result (λ s. cow_str_bytes s
             ≡ content_of (slice_range self.now.text token.now.start token.now.end)) }
+        ensures plain { has_escape (slice_range self.now.text token.now.start token.now.end) ≡ false
+            → IsOk result }
     {
-        unescape(alloc, without_quotes(self.slice(token)))
+        let written = without_quotes(self.slice(token));
+        if has_escape(written) {
+            return Ok(CowStr::Owned(unescape(alloc, written)?));
+        }
+        Ok(CowStr::Borrowed(written))
     }
 
     /// The place of the next token, behind blanks and comments.

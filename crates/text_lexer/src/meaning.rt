@@ -1,6 +1,7 @@
 //! The bytes of a token, and what those of a number and a text mean.
 
-ghost use Rattle.std.specs.Prelude.{◌≡◌, ◌+◌, ◌-◌, ◌^◌, ◌<◌, [], ◌∷◌, ◌++◌, length, slice_index, slice_range, IsTrue, IfOk, SomeIff};
+ghost use Rattle.std.specs.Prelude.{◌≡◌, ◌+◌, ◌-◌, ◌^◌, ◌<◌, ◌==◌, false, [], ◌∷◌, ◌++◌, length, slice_index, slice_range, IsTrue, IfOk, SomeIff};
+ghost use Rattle.std.specs.List.{list_any};
 ghost use Rattle.std.specs.String.{string_bytes};
 ghost use Rattle.text_lexer.specs.Token.{IsTokenOf, decimal_value, escape_value, is_digits, is_escape, is_text, is_text_rest, unescaped};
 
@@ -32,6 +33,14 @@ pub fn without_quotes(text: &str) -> &str
     ensures closed { IsTrue (is_text_rest (result.now ++ 34 ∷ [])) }
 {
     &text[1..text.len() - 1]
+}
+
+/// Whether an escape stands in the content of a text. Content with none means itself.
+pub fn has_escape(written: &str) -> bool
+    ensures found { result ≡ list_any (λ b. b == 92) written.now }
+    ensures plain { result ≡ false → unescaped written.now ≡ written.now }
+{
+    written.as_bytes().contains(&b'\\')
 }
 
 /// What the escape means whose second byte is the first one here.
