@@ -1,0 +1,16 @@
+use Rattle.std.proofs.Common.{◌≤◌, ◌-◌, length, take}
+use Rattle.std.specs.Io.KnownBytes.{Appends}
+use Rattle.outside.specs.Counts.{NeverFalls}
+use Rattle.html_out.proofs.transfer.put.Given as goal
+
+-- what was written so far is appended
+abbrev pub invariant-loop-written : goal.invariant-loop-written
+invariant-loop-written g l =
+    record {
+      within : l.written ≤ length l.bytes;
+      appended : Appends (g.K.Sink.taken l.fn.sink) (g.K.Sink.taken l.sink) (take l.written l.bytes);
+      counted : NeverFalls (g.K.Sink.faults l.fn.sink) (g.K.Sink.faults l.sink);
+    }
+
+abbrev pub decreases-loop-written : goal.decreases-loop-written
+decreases-loop-written g l = length l.bytes - l.written
