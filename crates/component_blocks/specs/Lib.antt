@@ -1,0 +1,5 @@
+pub mod Nest
+pub mod Scope
+pub mod Seen
+pub mod Blocks
+pub mod Whole
