@@ -74,6 +74,6 @@ fn each_run_is_one_write_and_a_failure_is_the_last(rt: HostRuntime) -> Result<()
     }
     let mut sink = sink_of(rt.alloc(), 4, &[])?;
     assert!(rt; put(&mut sink, b"<p>6</p>").is_err());
-    assert_eq!(rt; sink.bytes(), b"<p>6");
+    assert_eq!(rt; sink.bytes(), "<p>6".as_bytes());
     Ok(())
 }
