@@ -1,5 +1,10 @@
-mod Others
-pub mod ScratchLemmas
-pub mod IdsLemmas
-pub mod PageLemmas
-pub mod EscapeLemmas
+pub mod Places
+pub mod Flags
+pub mod Covers
+pub mod Comes
+pub mod Differ
+pub mod Makes
+pub mod Counts
+pub mod Solves
+pub mod Order
+pub mod Computes

@@ -1,4 +1,10 @@
+pub mod Place
+pub mod Held
+pub mod Written
+pub mod Keyed
 pub mod Scratch
-pub mod Ids
 pub mod Shown
 pub mod Page
+pub mod Sound
+pub mod Fits
+pub mod Rows

@@ -1,65 +1,77 @@
--- Plain evaluation: the value of each id, by recursion over the text, with no graph and no cache.
-use Rattle.std.specs.Prelude.{ℕ, ◌==◌, if◌then◌else◌, slice_index_or, List, [], ◌∷◌}
+-- Plain evaluation: the value of each place, by recursion over the text, with no graph and no cache.
+use Rattle.std.specs.Prelude.{ℕ, suc, Bool, false, if◌then◌else◌, List, [], ◌∷◌, Option, Some, None}
+use Rattle.std.specs.List.{flat_map}
 use Rattle.values.specs.declared.code.Code.{Code}
 use Rattle.values.specs.declared.code.Code.TheVariants.{Empty}
-use Rattle.values.specs.Evaluation.{value_of}
-use Rattle.component_items.specs.declared.component.Attr.{Attr}
-use Rattle.component_items.specs.declared.component.Attr.TheVariants as attr
+use Rattle.values.specs.Evaluation.{is_same, value_of}
 use Rattle.component_items.specs.declared.component.Component.{Component}
-use Rattle.component_items.specs.declared.component.Item.{Item}
-use Rattle.component_items.specs.declared.component.Item.TheOpen as level
-use Rattle.component_items.specs.declared.component.Item.TheOpen.{Item-F}
-use Rattle.component_items.specs.declared.component.Item.TheFolds.{fold-Item}
+use Rattle.plain_evaluation.specs.Place.{Place, outside, same_place}
+use Rattle.plain_evaluation.specs.Held.{Held}
+use Rattle.plain_evaluation.specs.Written.{State, state_of, Scene, Says, given, loaded, derived, Written, place_of, written_in}
+use Rattle.plain_evaluation.specs.Keyed.{Stand, literal, place, stands_for, is_keyed}
 
--- the value of each id
+-- the value of each place; one that has none is empty
 abbrev pub Values : Type 0
-Values = ℕ → Code
+Values = Place → Code
 
--- the values in a list by id; an id past its end has none
-abbrev pub code_at : List Code → Values
-code_at codes id = slice_index_or codes id Empty
-
--- before the first item no id has a value
 abbrev pub no_values : Values
-no_values id = Empty
+no_values p = Empty
 
--- the values, and this one for this id
-abbrev pub with_value : ℕ → Code → Values → Values
-with_value id code values other = if other == id then code else values other
+abbrev pub with_value : Place → Code → Values → Values
+with_value p code values q = if same_place p q then code else values q
 
--- an attribute that shows an expression has its value
-abbrev pub after_attr : Attr → Values → Values
-after_attr (attr.Bare name) values = values
-after_attr (attr.Fixed name text) values = values
-after_attr (attr.Shown name id expr) values = with_value id (value_of expr values) values
+-- the value of what an id stands for
+abbrev pub value_for : Values → Stand → Code
+value_for values (literal code) = code
+value_for values (place p) = values p
 
-abbrev pub after_attrs : List Attr → Values → Values
-after_attrs [] values = values
-after_attrs (a ∷ attrs) values = after_attrs attrs (after_attr a values)
+-- what an expression in this scene reads
+abbrev pub seen_from : (ℕ → Bool) → Values → Scene → ℕ → Code
+seen_from keyed values scene id = value_for values (stands_for keyed scene id)
 
--- items whose effects are known, one after another
-abbrev pub in_order : List (Values → Values) → Values → Values
-in_order [] values = values
-in_order (one ∷ others) values = in_order others (one values)
+-- the value of a resource for a key
+abbrev pub value_by : List (Code × Code) → Code → Code
+value_by [] key = Empty
+value_by (pair ∷ pairs) key = if is_same pair.0 key then pair.1 else value_by pairs key
 
--- One item: a signal has its start, a memo and what is shown have the value of their expression over the
--- values before it in the text, and an element gives values to its attributes and then to its items.
--- The grammar that is read today makes no other item; any other gives no value.
-abbrev pub scratch_step : Item-F (Values → Values) → Values → Values
-scratch_step (level.Signal id name start) values = with_value id start values
-scratch_step (level.Memo id name expr) values = with_value id (value_of expr values) values
-scratch_step (level.Element tag closed attrs items) values = in_order items (after_attrs attrs values)
-scratch_step (level.Shown id expr) values = with_value id (value_of expr values) values
-scratch_step _ values = values
+-- a load has the value for the key that arrived, where that is the value of its key
+abbrev pub load_value : List (Code × Code) → Option Code → Code → Code
+load_value pairs None key = Empty
+load_value pairs (Some code) key = if is_same code key then value_by pairs code else Empty
 
-unfoldable pub after_item : Item → Values → Values
-after_item = fold-Item (Values → Values) scratch_step
+-- what the value of a place is, where `seen` gives that of each id that it reads
+abbrev pub value_said : Says → ℕ → (ℕ → Code) → Code
+value_said (given kind code) id seen = code
+value_said (loaded pairs arrived) id seen = load_value pairs arrived (seen (suc id))
+value_said (derived kind expr) id seen = value_of expr seen
 
--- the values after these items, in text order
-abbrev pub after_items : List Item → Values → Values
-after_items [] values = values
-after_items (item ∷ items) values = after_items items (after_item item values)
+-- the values of a text, from the top down
+abbrev pub values_in : (ℕ → Bool) → List Written → Values → Values
+values_in keyed [] values = values
+values_in keyed (w ∷ ws) values = values_in keyed ws (with_value (place_of w) (value_said w.says w.id (seen_from keyed values w.scene)) values)
 
--- the value of each id of the component
-abbrev pub scratch : Component → Values
-scratch component = after_items component.items no_values
+-- the value of each place of the component
+abbrev pub scratch_in : Component → State → Values
+scratch_in component state = values_in (is_keyed component) (written_in component state) no_values
+
+abbrev pub scratch : Component → Held → Values
+scratch component held = scratch_in component (state_of held)
+
+-- ---- pending loads
+
+-- the key that arrived, if one did, is the one
+abbrev pub has_arrived : Option Code → Code → Bool
+has_arrived None key = false
+has_arrived (Some code) key = is_same code key
+
+abbrev pub pending_step : Values → ℕ → Says → List ℕ
+pending_step values id (given kind code) = []
+pending_step values id (loaded pairs arrived) = if has_arrived arrived (values (outside (suc id))) then [] else id ∷ []
+pending_step values id (derived kind expr) = []
+
+-- the live loads whose key has not arrived, in order of declaration
+abbrev pub pending_in : Component → State → List ℕ
+pending_in component state = flat_map (λ w. pending_step (scratch_in component state) w.id w.says) (written_in component state)
+
+abbrev pub pending : Component → Held → List ℕ
+pending component held = pending_in component (state_of held)

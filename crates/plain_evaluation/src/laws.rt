@@ -1,49 +1,30 @@
-//! Laws of the definitions that the crate's contracts cite. Each is the contract of a function that
-//! does nothing.
-ghost use Rattle.std.specs.Prelude.{◌≡◌, ℕ, List, [], ◌∷◌, ◌++◌, Bool, true, false, Contains, codes, negsuc};
-ghost use Rattle.values.specs.declared.code.Code.{Code as CodeValue};
-ghost use Rattle.values.specs.declared.expr.Expr.{Expr as ExprValue};
-ghost use Rattle.values.specs.Evaluation.{value_of, reads_of};
+//! Laws of the definitions. Each is the contract of a function that does nothing.
+ghost use Rattle.std.specs.Prelude.{◌≡◌, ◌≤◌, length};
 ghost use Rattle.component_items.specs.declared.component.Component.{Component as ComponentValue};
-ghost use Rattle.component_items.specs.declared.component.Item.{Item as ItemValue};
-ghost use Rattle.plain_evaluation.specs.Scratch.{no_values, with_value, after_items, scratch};
-ghost use Rattle.plain_evaluation.specs.Ids.{LeavesOut};
-ghost use Rattle.plain_evaluation.specs.Shown.{escaped};
-ghost use Rattle.plain_evaluation.specs.Page.{item_bytes, page_of};
+ghost use Rattle.component_items.specs.Kept.{IsKept};
+ghost use Rattle.plain_evaluation.specs.Fits.{RowsFit};
+ghost use Rattle.plain_evaluation.specs.Keyed.{is_keyed};
+ghost use Rattle.plain_evaluation.specs.Sound.{IsSound, SolvesItsEquations, ReadsStandBefore};
+ghost use Rattle.plain_evaluation.specs.Written.{State, written_in};
 
-use component_items::{Attr, Item};
-use values::Code;
-
-/// The page of no items is empty.
-pub fn no_items_write_nothing()
-    ensures { (component : ComponentValue) → component.items ≡ [] → page_of component ≡ [] }
+/// What a component writes out makes sense: no place stands twice, and what is named stands before it in the
+/// text and is no effect.
+pub fn components_make_sense()
+    ensures { (component : ComponentValue) (state : State) → IsKept component → RowsFit component state → IsSound (is_keyed component) (written_in component state) }
 {}
 
-/// An id that no item declares has no value.
-pub fn other_ids_have_no_value()
-    ensures { (component : ComponentValue) (id : ℕ) → LeavesOut component.items id → scratch component id ≡ Code.Empty }
+/// Plain evaluation solves its equations: each place has the value that the text says of it, over the values
+/// of what it names.
+pub fn scratch_solves_its_equations()
+    ensures { (component : ComponentValue) (state : State) → IsKept component → RowsFit component state → SolvesItsEquations component state }
 {}
 
-/// A signal has its start, where its id is not declared again behind it.
-pub fn signals_have_their_start()
-    ensures { (component : ComponentValue) (before after : List ItemValue) (id name : ℕ) (start : CodeValue) → component.items ≡ before ++ Item.Signal id name start ∷ after → LeavesOut after id → scratch component id ≡ start }
+/// What a value reads stands before it in the text.
+pub fn reads_stand_before()
+    ensures { (component : ComponentValue) (state : State) → IsKept component → RowsFit component state → ReadsStandBefore component state }
 {}
 
-/// A memo has the value of its expression over the values of the whole component, where neither its
-/// id nor, from the memo on, an id that its expression reads is declared again.
-pub fn memos_solve_their_equations()
-    ensures { (component : ComponentValue) (before after : List ItemValue) (id name : ℕ) (expr : ExprValue) → component.items ≡ before ++ Item.Memo id name expr ∷ after → LeavesOut after id → ((row : ℕ) → Contains (reads_of expr (after_items before no_values)) row → LeavesOut (Item.Memo id name expr ∷ after) row) → scratch component id ≡ value_of expr (scratch component) }
-{}
-
-/// No tag begins inside an escaped text, and no quotation mark ends an escaped value.
-pub fn escaped_texts_stay_inside()
-    ensures tag { (in_value : Bool) (text : List ℕ) → ¬ Contains (escaped in_value text) 60 }
-    ensures quotation_mark { (text : List ℕ) → ¬ Contains (escaped true text) 34 }
-{}
-
-/// Worked rows of pages: a void element with attributes, whose value has a quotation mark, and an
-/// element in an element, which show a text with a `<` and a number below 0.
-pub fn worked_pages()
-    ensures void { item_bytes (codes "" ∷ codes "input" ∷ codes "value" ∷ codes "a\"b" ∷ codes "disabled" ∷ []) no_values (Item.Element 1 false (Attr.Fixed 2 3 ∷ Attr.Bare 4 ∷ []) []) ≡ codes "<input value=\"a&quot;b\" disabled>" }
-    ensures nested { (e : ExprValue) → item_bytes (codes "" ∷ codes "p" ∷ codes "b" ∷ codes "1<2" ∷ codes "id" ∷ []) (with_value 0 (Code.Word 3) (with_value 1 (Code.Number (negsuc 2)) no_values)) (Item.Element 1 true (Attr.Shown 4 1 e ∷ []) (Item.Shown 0 e ∷ Item.Element 2 true [] (Item.Shown 1 e ∷ []) ∷ [])) ≡ codes "<p id=\"-3\">1&lt;2<b>-3</b></p>" }
+/// A component writes out no more places than a plan has nodes.
+pub fn places_are_few()
+    ensures { (component : ComponentValue) (state : State) → IsKept component → RowsFit component state → length (written_in component state) ≤ 4096 }
 {}

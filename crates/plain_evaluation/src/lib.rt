@@ -1,12 +1,7 @@
-//! Plain evaluation: the value of each id of a component and its page, straight from the text.
+//! What a page is: held state, plain evaluation by recursion over the text, pending loads and the bytes of a
+//! page, for each form of item, as definitions with their laws. There is no graph, no cache and no code here:
+//! the crates above cite these definitions in their contracts.
 #![tactic(auto)]
 
-mod evaluation;
 pub mod laws;
-mod page;
-
-pub use evaluation::values_of;
-pub use page::page_bytes;
-
-#[cfg(test)]
-mod tests;
+pub mod worked;

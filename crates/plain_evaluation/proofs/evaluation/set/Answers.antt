@@ -1,9 +1,0 @@
-use Rattle.std.proofs.Common.{◌<◌, length, ap, ◌∙◌, arith}
-use Rattle.plain_evaluation.specs.Scratch.{with_value}
-use Rattle.plain_evaluation.proofs.ScratchLemmas.{code_at-set}
-use Rattle.plain_evaluation.proofs.evaluation.set.Goals as goal
-
-pub returns : goal.returns
-returns c =
-    let within : c.args.id < length c.lengthen.new.values.items = grind arith in
-    code_at-set c.lengthen.new.values.items c.args.id c.args.code within ∙ ap (with_value c.args.id c.args.code) c.in_ok-lengthen.ensures.same

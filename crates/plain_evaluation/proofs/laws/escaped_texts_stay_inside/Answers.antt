@@ -1,8 +1,0 @@
-use Rattle.plain_evaluation.proofs.EscapeLemmas.{escaped-no_tag, escaped-no_quotation_mark}
-use Rattle.plain_evaluation.proofs.laws.escaped_texts_stay_inside.Goals as goal
-
-pub returns-clause-tag : goal.returns-clause-tag
-returns-clause-tag c = escaped-no_tag
-
-pub returns-clause-quotation_mark : goal.returns-clause-quotation_mark
-returns-clause-quotation_mark c = escaped-no_quotation_mark
