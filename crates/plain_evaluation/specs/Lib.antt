@@ -3,7 +3,6 @@ pub mod Held
 pub mod Written
 pub mod Keyed
 pub mod Scratch
-pub mod Shown
 pub mod Page
 pub mod Sound
 pub mod Fits

@@ -13,7 +13,7 @@ use Rattle.component_items.specs.declared.component.Item.TheFolds.{fold-Item}
 use Rattle.plain_evaluation.specs.Place.{Place, place_at}
 use Rattle.plain_evaluation.specs.Held.{Held, is_live, rows_held}
 use Rattle.plain_evaluation.specs.Scratch.{scratch}
-use Rattle.plain_evaluation.specs.Shown.{escaped, text_at, shown}
+use Rattle.html_out.specs.Shown.{escaped, text_at, shown}
 
 -- what a page is written from
 pub record View : Type 0 where

@@ -1,5 +1,5 @@
 -- Components and held states for worked rows. Above each component is its text, with a line for each `|`.
-use Rattle.std.specs.Prelude.{ℕ, List, [], ◌∷◌, Option, Some, None, pos, negsuc, codes, true, false}
+use Rattle.std.specs.Prelude.{ℕ, List, [], ◌∷◌, Option, pos, negsuc, codes, true, false}
 use Rattle.values.specs.declared.code.Code.{Code}
 use Rattle.values.specs.declared.code.Code.TheVariants.{Number, Word}
 use Rattle.values.specs.declared.code.Op.TheVariants as op

@@ -1,4 +1,4 @@
-use Rattle.std.proofs.Common.{◌≡◌, ℕ, ◌∷◌, ◌++◌, [], List, codes, pos, negsuc, None, ap, ◌∙◌, append_assoc, refl}
+use Rattle.std.proofs.Common.{◌≡◌, ℕ, ◌++◌, List, codes, pos, negsuc, None, ap, ◌∙◌, append_assoc, refl}
 use Rattle.std.specs.Fmt.{signed_decimal}
 use Rattle.values.specs.declared.code.Code.{Code}
 use Rattle.values.specs.declared.code.Code.TheVariants.{Empty, Number}
