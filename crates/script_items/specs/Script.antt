@@ -1,8 +1,8 @@
 -- A script: its phases in order, the lanes of each phase, and the operations of each lane.
 use Rattle.std.specs.Prelude.{ℕ, zero, suc, ◌≤◌, Option, None, List, [], ◌∷◌, ◌++◌, length, slice_get, All}
 use Rattle.std.specs.Option.{option_map, option_and_then}
+use Rattle.values.specs.declared.limits.TheConstants.{MOST_PHASES, MOST_LANES}
 use Rattle.script_items.specs.declared.operation.ScriptOp.{ScriptOp}
-use Rattle.script_items.specs.declared.script.TheConstants.{MAX_PHASES, MAX_LANES}
 
 -- the item with this number, counted from 1: none at 0 and past the end
 abbrev pub numbered : {A : Type 0} → List A → ℕ → Option A
@@ -38,5 +38,5 @@ with_op op script = at_last (λ lanes. at_last (λ ops. ops ++ op ∷ []) lanes)
 
 -- what holds of each script
 pub record IsScript (script : List (List (List ScriptOp))) : Type 0 where
-  pub phases : length script ≤ MAX_PHASES
-  pub lanes : All (λ lanes. length lanes ≤ MAX_LANES) script
+  pub phases : length script ≤ MOST_PHASES
+  pub lanes : All (λ lanes. length lanes ≤ MOST_LANES) script

@@ -5,7 +5,7 @@ mod operation;
 mod script;
 
 pub use operation::ScriptOp;
-pub use script::{MAX_LANES, MAX_PHASES, Script};
+pub use script::{END_OF_ROWS, Script};
 
 #[cfg(test)]
 mod tests;

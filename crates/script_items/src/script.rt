@@ -1,6 +1,7 @@
 //! Scripts.
 ghost use Rattle.std.specs.Prelude.{◌≡◌, [], ◌∷◌, ◌++◌, ◌<◌, ◌≤◌, ◌↔◌, length, IsSome, IsSomeAnd, OnOk, OnErr};
 ghost use Rattle.std.specs.Option.{option_copied, option_and_then};
+ghost use Rattle.values.specs.declared.limits.TheConstants.{MOST_PHASES, MOST_LANES};
 ghost use Rattle.script_items.specs.Script.{numbered, at_last, lanes_of, op_at, with_phase, with_lane, with_op, IsScript};
 
 use crate::operation::ScriptOp;
@@ -8,11 +9,8 @@ use std::alloc::Global;
 use std::marker::Model;
 use values::{NoMemory, Sequence};
 
-/// As many phases as a script has.
-pub const MAX_PHASES: u32 = 64;
-
-/// As many lanes as a phase has.
-pub const MAX_LANES: u32 = 16;
+/// The place of a row that is inserted behind all others, as where an insert names none.
+pub const END_OF_ROWS: u32 = 4294967295;
 
 /// The phases of a script, in order. Contracts see the list of them, each as the list of its lanes, and each
 /// of these as the list of its operations.
@@ -70,7 +68,7 @@ impl Script {
 
     /// Begins a phase at the end. It has no lane yet.
     pub fn begin_phase(&mut self) -> Result<(), NoMemory>
-        requires { length self.old < MAX_PHASES }
+        requires { length self.old < MOST_PHASES }
         ensures begun { OnOk result (self.new ≡ with_phase self.old) }
         ensures unchanged { OnErr result (self.new ≡ self.old) }
     {
@@ -81,7 +79,7 @@ impl Script {
 
     /// Begins a lane at the end of the last phase. It has no operation yet.
     pub fn begin_lane(&mut self) -> Result<(), NoMemory>
-        requires { IsSomeAnd (lanes_of self.old (length self.old)) (λ lanes. lanes < MAX_LANES) }
+        requires { IsSomeAnd (lanes_of self.old (length self.old)) (λ lanes. lanes < MOST_LANES) }
         ensures begun { OnOk result (self.new ≡ with_lane self.old) }
         ensures unchanged { OnErr result (self.new ≡ self.old) }
     {

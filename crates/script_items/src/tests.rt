@@ -1,12 +1,13 @@
 //! Worked rows, with ample memory.
 
-use crate::{MAX_LANES, MAX_PHASES, Script, ScriptOp};
+use crate::{Script, ScriptOp};
 use std::test::Fail;
 use values::NoMemory;
+use values::limits::{MOST_LANES, MOST_PHASES};
 
 /// Adds a phase at the end, where there is room for one.
 fn add_phase(script: &mut Script) -> Result<(), NoMemory> {
-    if script.phases() < MAX_PHASES {
+    if (script.phases() as usize) < MOST_PHASES {
         script.begin_phase()?;
     }
     Ok(())
@@ -17,7 +18,7 @@ fn add_lane(script: &mut Script, owners: &[u32]) -> Result<(), NoMemory> {
     let Some(lanes) = script.lanes(script.phases()) else {
         return Ok(());
     };
-    if lanes < MAX_LANES {
+    if (lanes as usize) < MOST_LANES {
         script.begin_lane()?;
     }
     for owner in owners {

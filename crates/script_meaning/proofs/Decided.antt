@@ -12,12 +12,12 @@ use Rattle.part_meaning.specs.Computed.{outcome}
 use Rattle.part_meaning.proofs.Once as once
 use Rattle.part_meaning.proofs.Computed as computed
 use Rattle.script_items.specs.declared.operation.ScriptOp.{ScriptOp}
-use Rattle.script_meaning.specs.Names.{Names, names_of}
+use Rattle.script_meaning.specs.Names.{Declaration, names_of}
 use Rattle.script_meaning.specs.State.{State}
 use Rattle.script_meaning.specs.Script.{script_for, script_text, IsScript, IsNoScript}
 use Rattle.script_meaning.specs.Computed.{Read, read_in, refusal_in, read_of, refusal_of}
 
-pub decided : (texts : List (List ℕ)) (names : Names) (first_line : ℕ) → IsDecided (script_for texts names first_line)
+pub decided : (texts : List (List ℕ)) (names : List Declaration) (first_line : ℕ) → IsDecided (script_for texts names first_line)
 decided texts names first_line = record { right = is_right; fits = fits; end = terminal.End; closes = record { inner = s.Rule rule.Script ∷ []; whole = refl } }
 
 module _ (component : Component) (first_line : ℕ) (bytes : List ℕ) where
@@ -43,7 +43,7 @@ module _ (component : Component) (first_line : ℕ) (bytes : List ℕ) where
 some_is : {A : Type 0} (a b : A) → Some a ≡ Some b → a ≡ b
 some_is a b p = cc
 
-module _ (texts : List (List ℕ)) (names : Names) (first_line : ℕ) (bytes : List ℕ) where
+module _ (texts : List (List ℕ)) (names : List Declaration) (first_line : ℕ) (bytes : List ℕ) where
   read_from : State → Read
   read_from a = record { phases = a.phases; texts = a.texts }
 
@@ -59,7 +59,7 @@ module _ (texts : List (List ℕ)) (names : Names) (first_line : ℕ) (bytes : L
   read_refusal why (refused e) is same = computed.computed_refusal (script_for texts names first_line) (decided texts names first_line) bytes why (is ∙ ap refused (some_is e why same))
   read_refusal why undecided is same = absurd cc
 
-pub computed_script : (component : Component) (names : Names) (first_line : ℕ) (bytes : List ℕ) (r : Read) → names_of component.items ≡ names → read_of component.texts names first_line bytes ≡ Some r
+pub computed_script : (component : Component) (names : List Declaration) (first_line : ℕ) (bytes : List ℕ) (r : Read) → names_of component.items ≡ names → read_of component.texts names first_line bytes ≡ Some r
     → IsScript component first_line bytes r.phases r.texts
 unfolding read_from
 computed_script component names first_line bytes r same is =
@@ -70,7 +70,7 @@ computed_script component names first_line bytes r same is =
       all_texts = ap (λ (x : Read). x.texts) (sym found.2);
     }
 
-pub computed_refusal : (component : Component) (names : Names) (first_line : ℕ) (bytes : List ℕ) (why : Refusal) → names_of component.items ≡ names → refusal_of component.texts names first_line bytes ≡ Some why
+pub computed_refusal : (component : Component) (names : List Declaration) (first_line : ℕ) (bytes : List ℕ) (why : Refusal) → names_of component.items ≡ names → refusal_of component.texts names first_line bytes ≡ Some why
     → IsNoScript component first_line bytes why
 computed_refusal component names first_line bytes why same is =
     subst (λ n. IsRefused (script_for component.texts n first_line) bytes why) (sym same)

@@ -8,12 +8,12 @@ use Rattle.component_items.specs.declared.refusal.Refusal.{Refusal}
 use Rattle.part_meaning.specs.Part.{EndsEach, IsReadTo, IsRefused}
 use Rattle.part_meaning.proofs.Either as either
 use Rattle.script_items.specs.declared.operation.ScriptOp.{ScriptOp}
-use Rattle.script_meaning.specs.Names.{Names, names_of}
+use Rattle.script_meaning.specs.Names.{Declaration, names_of}
 use Rattle.script_meaning.specs.State.{State}
 use Rattle.script_meaning.specs.Script.{script_for, script_text, IsScript, IsNoScript}
 use Rattle.script_meaning.proofs.Decided.{decided}
 
-pub ends_each : (texts : List (List ℕ)) (names : Names) (first_line : ℕ) → EndsEach (script_for texts names first_line)
+pub ends_each : (texts : List (List ℕ)) (names : List Declaration) (first_line : ℕ) → EndsEach (script_for texts names first_line)
 ends_each texts names first_line = record {
   level = level;
   down = script_down;

@@ -12,12 +12,12 @@ use Rattle.component_meaning.specs.Computed.{read_of, refusal_of}
 use Rattle.component_meaning.proofs.Decided as component
 use Rattle.script_meaning.specs.Computed as script
 use Rattle.script_meaning.specs.Input.{component_part, script_part, IsInput, IsBadInput, bad_component, bad_script}
-use Rattle.script_meaning.specs.Names.{Names, names_of}
+use Rattle.script_meaning.specs.Names.{Declaration, names_of}
 use Rattle.script_meaning.specs.Script.{IsScript, IsNoScript}
 use Rattle.script_meaning.proofs.Decided.{computed_script, computed_refusal}
 
 -- the bytes are the text of the component, which has these names
-pub record ComponentRead (part : List ℕ) (c : Component) (names : Names) : Type 0 where
+pub record ComponentRead (part : List ℕ) (c : Component) (names : List Declaration) : Type 0 where
   pub read : read_of part ≡ Some c
   pub few_nodes : nodes_of c.items ≤ 4096
   pub named : names_of c.items ≡ names
@@ -30,7 +30,7 @@ module _ (bytes : List ℕ) (split : Split) (part : List ℕ) where
   computed_bad_component why is front refused =
       bad_component split (splits is) (subst (λ p. IsNoComponent p why) (sym front) (component.computed_refusal part why refused))
 
-  module _ (rest : List ℕ) (c : Component) (names : Names) where
+  module _ (rest : List ℕ) (c : Component) (names : List Declaration) where
     is_component : component_part bytes split ≡ part → ComponentRead part c names → IsComponent (component_part bytes split) c
     is_component front a = subst (λ p. IsComponent p c) (sym front) (component.computed_component part c a.read a.few_nodes)
 

@@ -6,7 +6,7 @@ use Rattle.component_items.specs.declared.component.Component.{Component}
 use Rattle.component_items.specs.declared.component.Item.{Item}
 use Rattle.component_items.specs.declared.component.Item.TheVariants as item
 use Rattle.component_items.proofs.FoldLemmas.{at-Signal, fold-Signal}
-use Rattle.script_meaning.specs.Names.{Names, none, one, a_signal, item_names, names_of}
+use Rattle.script_meaning.specs.Names.{Declaration, a_signal, declared, item_names, names_of}
 use Rattle.script_meaning.proofs.InputComputed.{ComponentRead}
 
 -- ---- nothing behind the head
@@ -21,10 +21,10 @@ empty_count = refl
 empty_nodes : nodes_of [] ≤ 4096
 empty_nodes = let count = empty_count in omega arith
 
-pub head_read : ComponentRead (codes "component 1") empty_component none
+pub head_read : ComponentRead (codes "component 1") empty_component []
 head_read = record { read = refl; few_nodes = empty_nodes; named = refl }
 
-pub head_line_read : ComponentRead (codes "component 1\n") empty_component none
+pub head_line_read : ComponentRead (codes "component 1\n") empty_component []
 head_line_read = record { read = refl; few_nodes = empty_nodes; named = refl }
 
 -- ---- one signal
@@ -35,8 +35,8 @@ signal_items = item.Signal 0 1 (Number (pos 1)) ∷ []
 abbrev pub signal_component : Component
 signal_component = record { texts = [] ∷ codes "a" ∷ []; items = signal_items }
 
-abbrev pub signal_names : Names
-signal_names = one 1 (a_signal 0) none none
+abbrev pub signal_names : List Declaration
+signal_names = declared 0 1 (a_signal 0)
 
 signal_count : nodes_of signal_items ≡ 1
 unfolding item_maximum item_nodes

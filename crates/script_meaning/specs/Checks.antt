@@ -1,6 +1,7 @@
 -- The checks of a token of a script at its place, and their order.
 use Rattle.std.specs.Prelude.{ℕ, nat_lt, nat_le, ◌==◌, ◌&&◌, ◌||◌, not, Bool, true, false, is_none, List, [], ◌∷◌, length, find, Option, Some, None}
 use Rattle.std.specs.List.{list_any}
+use Rattle.values.specs.declared.limits.TheConstants.{MOST_PHASES, MOST_LANES}
 use Rattle.text_lexer.specs.declared.token.Mark.TheVariants as mark
 use Rattle.text_lexer.specs.declared.token.Token.{Token}
 use Rattle.text_lexer.specs.Tokens.{Lexed}
@@ -13,7 +14,7 @@ use Rattle.component_items.specs.declared.refusal.Why.TheVariants as why
 use Rattle.component_items.specs.declared.refusal.Count.TheVariants as count
 use Rattle.component_meaning.specs.Names.{bytes_of, value_in, content_in, greatest, greatest_negated, field_at, is_full}
 use Rattle.script_items.specs.declared.operation.ScriptOp.{ScriptOp}
-use Rattle.script_meaning.specs.Names.{Named, a_signal, a_memo, a_load, a_store, an_area, Found, named_by}
+use Rattle.script_meaning.specs.Names.{Named, a_signal, a_memo, a_load, a_store, an_area, named_by}
 use Rattle.script_meaning.specs.State.{State}
 
 pub data Check : Type 0 where
@@ -47,11 +48,11 @@ last_lanes (p ∷ []) = p
 last_lanes (p ∷ q ∷ phases) = last_lanes (q ∷ phases)
 
 abbrev pub fails_lanes : Terminal → State → Bool
-fails_lanes terminal.Lane a = nat_le 16 (length (last_lanes a.phases))
+fails_lanes terminal.Lane a = nat_le MOST_LANES (length (last_lanes a.phases))
 fails_lanes _ a = false
 
 abbrev pub fails_phases : Terminal → State → Bool
-fails_phases terminal.Phase a = nat_le 64 (length a.phases)
+fails_phases terminal.Phase a = nat_le MOST_PHASES (length a.phases)
 fails_phases _ a = false
 
 -- ---- NumberRange
@@ -119,9 +120,14 @@ is_path_name terminal.AreaName = true
 is_path_name terminal.StoreName = true
 is_path_name _ = false
 
+-- the owner of an area; where no area is named that is the top
+abbrev pub owner_of : Named → ℕ
+owner_of (an_area owner) = owner
+owner_of _ = 0
+
 -- what the name stands for in the area that the path names so far
-abbrev pub found_as : List ℕ → State → Token → Option Found
-found_as text a x = named_by (bytes_of text x) a.texts a.names
+abbrev pub found_as : List ℕ → State → Token → Option Named
+found_as text a x = named_by (bytes_of text x) a.texts (owner_of a.named) a.names
 
 -- the place of a field in the store that the path names
 abbrev pub fields_of : Named → List ℕ
@@ -136,9 +142,9 @@ fails_unknown text terminal.RowField a x = is_none (field_of text a x)
 fails_unknown text terminal.InsertedField a x = is_none (field_of text a x)
 fails_unknown text t a x = is_path_name t && is_none (found_as text a x)
 
-abbrev pub stands_wrong : List ℕ → Terminal → Option Found → Lexed → Bool
+abbrev pub stands_wrong : List ℕ → Terminal → Option Named → Lexed → Bool
 stands_wrong text t None next = false
-stands_wrong text t (Some found) next = not (may_stand text t found.what next)
+stands_wrong text t (Some what) next = not (may_stand text t what next)
 
 abbrev pub fails_place : List ℕ → Terminal → State → Token → Lexed → Bool
 fails_place text terminal.RowField a x next = is_dot text next || is_bracket text next

@@ -4,7 +4,7 @@ use Rattle.grammar.specs.Running.{Outcome, read, refused, undecided}
 use Rattle.component_items.specs.declared.refusal.Refusal.{Refusal}
 use Rattle.part_meaning.specs.Computed.{outcome}
 use Rattle.script_items.specs.declared.operation.ScriptOp.{ScriptOp}
-use Rattle.script_meaning.specs.Names.{Names}
+use Rattle.script_meaning.specs.Names.{Declaration}
 use Rattle.script_meaning.specs.State.{State}
 use Rattle.script_meaning.specs.Script.{script_for}
 
@@ -23,9 +23,9 @@ refusal_in (read a) = None
 refusal_in (refused why) = Some why
 refusal_in undecided = None
 
--- for a component with these texts and these names at its top
-abbrev pub read_of : List (List ℕ) → Names → ℕ → List ℕ → Option Read
+-- for a component with these texts and these names
+abbrev pub read_of : List (List ℕ) → List Declaration → ℕ → List ℕ → Option Read
 read_of texts names first_line bytes = read_in (outcome (script_for texts names first_line) bytes)
 
-abbrev pub refusal_of : List (List ℕ) → Names → ℕ → List ℕ → Option Refusal
+abbrev pub refusal_of : List (List ℕ) → List Declaration → ℕ → List ℕ → Option Refusal
 refusal_of texts names first_line bytes = refusal_in (outcome (script_for texts names first_line) bytes)

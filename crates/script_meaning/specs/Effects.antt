@@ -10,20 +10,21 @@ use Rattle.text_grammar.specs.declared.script.Terminal.{Terminal}
 use Rattle.text_grammar.specs.declared.script.Terminal.TheVariants as terminal
 use Rattle.store_fields.specs.declared.edit.EditOp.{EditOp}
 use Rattle.store_fields.specs.declared.edit.EditOp.TheVariants.{Insert, Remove, Move}
+use Rattle.script_items.specs.declared.script.TheConstants.{END_OF_ROWS}
 use Rattle.script_items.specs.declared.operation.ScriptOp.{ScriptOp}
 use Rattle.script_items.specs.declared.operation.ScriptOp.TheVariants as op
 use Rattle.script_items.specs.Script.{with_phase, with_lane, with_op}
 use Rattle.component_meaning.specs.Names.{value_in, content_in, number_in, negated_in, number_with}
-use Rattle.script_meaning.specs.Names.{Named, nothing, a_signal, a_memo, a_load, a_store, an_area, Found}
-use Rattle.script_meaning.specs.State.{State, end_of_rows}
-use Rattle.script_meaning.specs.Checks.{found_as, field_of}
+use Rattle.script_meaning.specs.Names.{Named, nothing, a_signal, a_memo, a_load, a_store}
+use Rattle.script_meaning.specs.State.{State}
+use Rattle.script_meaning.specs.Checks.{owner_of, found_as, field_of}
 
 -- ---- tokens
 
 -- the path goes on in what its name stands for
-abbrev pub with_found : Option Found → State → State
+abbrev pub with_found : Option Named → State → State
 with_found None a = a
-with_found (Some found) a = record a { named = found.what; names = found.inside }
+with_found (Some what) a = record a { named = what }
 
 abbrev pub id_of : Named → ℕ
 id_of (a_signal id) = id
@@ -71,10 +72,6 @@ effect text _ a x = a
 
 -- ---- actions
 
-abbrev pub owner_of : Named → ℕ
-owner_of (an_area owner) = owner
-owner_of _ = 0
-
 abbrev pub starts_of : Named → List Code
 starts_of (a_store id fields starts) = starts
 starts_of _ = []
@@ -89,8 +86,8 @@ abbrev pub edited : EditOp → State → State
 edited e a = done (op.Change (record { store = id_of a.named; op = e })) a
 
 abbrev pub perform : Action → State → State
-perform action.BeginPath a = record a { named = nothing; names = a.top; key = None }
-perform action.BeginEntries a = record a { values = starts_of a.named; given = []; place = end_of_rows }
+perform action.BeginPath a = record a { named = nothing; key = None }
+perform action.BeginEntries a = record a { values = starts_of a.named; given = []; place = END_OF_ROWS }
 perform action.AddValue a = record a { values = slice_set a.values a.field a.literal }
 perform action.MakeSet a = done (op.Set (id_of a.named) a.key a.literal) a
 perform action.MakeGet a = done (op.Get (id_of a.named) a.key) a

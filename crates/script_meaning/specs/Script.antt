@@ -9,12 +9,12 @@ use Rattle.component_items.specs.declared.component.Component.{Component}
 use Rattle.component_items.specs.declared.refusal.Refusal.{Refusal}
 use Rattle.part_meaning.specs.Part.{Language, IsReadTo, IsRefused}
 use Rattle.script_items.specs.declared.operation.ScriptOp.{ScriptOp}
-use Rattle.script_meaning.specs.Names.{Names, names_of}
+use Rattle.script_meaning.specs.Names.{Declaration, names_of}
 use Rattle.script_meaning.specs.State.{State, start_for}
 use Rattle.script_meaning.specs.Meaning.{semantics}
 
--- the language of script texts for a component with these texts and these names at its top
-abbrev pub script_for : List (List ℕ) → Names → ℕ → Language Terminal Rule Action State
+-- the language of script texts for a component with these texts and these names
+abbrev pub script_for : List (List ℕ) → List Declaration → ℕ → Language Terminal Rule Action State
 script_for texts names first_line = record { table = table; lookahead = lookahead; text = text; semantics = semantics; start = start_for texts names; first_line = first_line }
 
 abbrev pub script_text : Component → ℕ → Language Terminal Rule Action State

@@ -2,19 +2,19 @@
 use Rattle.std.specs.Prelude.{ℕ, List, [], Option, None}
 use Rattle.values.specs.declared.code.Code.{Code}
 use Rattle.values.specs.declared.code.Code.TheVariants.{Empty}
+use Rattle.script_items.specs.declared.script.TheConstants.{END_OF_ROWS}
 use Rattle.script_items.specs.declared.operation.ScriptOp.{ScriptOp}
-use Rattle.script_meaning.specs.Names.{Named, nothing, Names}
+use Rattle.script_meaning.specs.Names.{Named, nothing, Declaration}
 
 pub record State : Type 0 where
   -- the texts so far, in order of first meeting
   pub texts : List (List ℕ)
   -- the phases so far, each a list of lanes, each a list of operations
   pub phases : List (List (List ScriptOp))
-  -- the names at the top of the component, which stay
-  pub top : Names
-  -- of the path that is read: what it names so far, and the names directly in that area, or at the top
+  -- the names of the component, which stay
+  pub names : List Declaration
+  -- what the path that is read names so far
   pub named : Named
-  pub names : Names
   -- the key of a store row
   pub key : Option Code
   -- of an insert: the value of each field, the fields that were given, and the last of them
@@ -25,22 +25,17 @@ pub record State : Type 0 where
   pub place : ℕ
   pub literal : Code
 
--- the end of a store's rows
-abbrev pub end_of_rows : ℕ
-end_of_rows = 4294967295
-
--- before the first token, for a component with these texts and these names at its top
-abbrev pub start_for : List (List ℕ) → Names → State
+-- before the first token, for a component with these texts and these names
+abbrev pub start_for : List (List ℕ) → List Declaration → State
 start_for texts names = record {
   texts = texts;
   phases = [];
-  top = names;
-  named = nothing;
   names = names;
+  named = nothing;
   key = None;
   values = [];
   given = [];
   field = 0;
-  place = end_of_rows;
+  place = END_OF_ROWS;
   literal = Empty;
 }

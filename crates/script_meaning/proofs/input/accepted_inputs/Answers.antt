@@ -5,7 +5,6 @@ use Rattle.input_split.specs.declared.Split.{Split}
 use Rattle.script_items.specs.declared.operation.ScriptOp.TheVariants as op
 use Rattle.script_meaning.specs.Computed.{Read, read_of}
 use Rattle.script_meaning.specs.Input.{component_part, script_part}
-use Rattle.script_meaning.specs.Names.{none}
 use Rattle.script_meaning.proofs.InputComputed.{computed_input}
 use Rattle.script_meaning.proofs.InputWorked.{empty_component, head_read, signal_component, signal_names, signal_read}
 use Rattle.script_meaning.proofs.input.accepted_inputs.Goals as goal
@@ -25,12 +24,12 @@ no_separator_rest = refl
 abbrev no_separator_means : Read
 no_separator_means = record { phases = []; texts = empty_component.texts }
 
-no_separator_read : read_of empty_component.texts none 1 (codes "") ≡ Some no_separator_means
+no_separator_read : read_of empty_component.texts [] 1 (codes "") ≡ Some no_separator_means
 no_separator_read = refl
 
 pub returns-clause-no_separator : goal.returns-clause-no_separator
 returns-clause-no_separator c =
-    computed_input (codes "component 1") no_separator_split (codes "component 1") (codes "") empty_component none no_separator_means no_separator_splits no_separator_part no_separator_rest head_read no_separator_read
+    computed_input (codes "component 1") no_separator_split (codes "component 1") (codes "") empty_component [] no_separator_means no_separator_splits no_separator_part no_separator_rest head_read no_separator_read
 
 abbrev signal_is_set_split : Split
 signal_is_set_split = record { component_end = 25; script_start = 29; script_line = 4 }

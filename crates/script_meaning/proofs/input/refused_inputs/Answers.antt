@@ -1,4 +1,4 @@
-use Rattle.std.proofs.Common.{◌≡◌, Some, codes, refl}
+use Rattle.std.proofs.Common.{◌≡◌, [], Some, codes, refl}
 use Rattle.input_split.specs.Computed.{split_of}
 use Rattle.input_split.specs.declared.Split.{Split}
 use Rattle.component_items.specs.declared.refusal.Refusal.TheVariants.{Bad}
@@ -6,7 +6,6 @@ use Rattle.component_items.specs.declared.refusal.Why.TheVariants as Why
 use Rattle.component_meaning.specs.Computed.{refusal_of}
 use Rattle.script_meaning.specs.Computed as script
 use Rattle.script_meaning.specs.Input.{component_part, script_part}
-use Rattle.script_meaning.specs.Names.{none}
 use Rattle.script_meaning.proofs.InputComputed.{computed_bad_component, computed_bad_script}
 use Rattle.script_meaning.proofs.InputWorked.{empty_component, head_line_read, signal_component, signal_names, signal_read}
 use Rattle.script_meaning.proofs.input.refused_inputs.Goals as goal
@@ -73,10 +72,10 @@ lanes_part = refl
 lanes_rest : script_part (codes "component 1\n---\nphase lane lane lane lane lane lane lane lane lane lane lane lane lane lane lane lane lane") lanes_split ≡ codes "phase lane lane lane lane lane lane lane lane lane lane lane lane lane lane lane lane lane"
 lanes_rest = refl
 
-lanes_refused : script.refusal_of empty_component.texts none 3 (codes "phase lane lane lane lane lane lane lane lane lane lane lane lane lane lane lane lane lane") ≡ Some (Bad Why.TooManyLanes (record { line = 3; column = 87 }))
+lanes_refused : script.refusal_of empty_component.texts [] 3 (codes "phase lane lane lane lane lane lane lane lane lane lane lane lane lane lane lane lane lane") ≡ Some (Bad Why.TooManyLanes (record { line = 3; column = 87 }))
 lanes_refused = refl
 
 pub returns-clause-lanes : goal.returns-clause-lanes
 returns-clause-lanes c =
-    computed_bad_script (codes "component 1\n---\nphase lane lane lane lane lane lane lane lane lane lane lane lane lane lane lane lane lane") lanes_split (codes "component 1\n") (codes "phase lane lane lane lane lane lane lane lane lane lane lane lane lane lane lane lane lane") empty_component none (Bad Why.TooManyLanes (record { line = 3; column = 87 }))
+    computed_bad_script (codes "component 1\n---\nphase lane lane lane lane lane lane lane lane lane lane lane lane lane lane lane lane lane") lanes_split (codes "component 1\n") (codes "phase lane lane lane lane lane lane lane lane lane lane lane lane lane lane lane lane lane") empty_component [] (Bad Why.TooManyLanes (record { line = 3; column = 87 }))
     lanes_splits lanes_part lanes_rest head_line_read lanes_refused
