@@ -13,7 +13,7 @@ use std::marker::Model;
 /// there are.
 #[derive(Drop)]
 pub struct Attributes {
-    attrs: Attrs,
+    attrs: Vec<Attr>,
     names: HashSet<u32>,
 }
 
@@ -30,9 +30,18 @@ impl Model for Attributes {
 
     ghost coded = { Prim.hlevel (codes, expr.the_row.coded) };
 
-    ghost view = { λ a. a.attrs };
+    ghost view = { λ a. a.attrs.items };
 
-    ghost invariant = { λ a. (name : ℕ) → contains nat_eq a.names name ≡ list_any (λ attr. name == name_of attr) a.attrs };
+    ghost invariant = { λ a. (name : ℕ) → contains nat_eq a.names name ≡ list_any (λ attr. name == name_of attr) a.attrs.items };
+}
+
+/// The name of an attribute.
+fn attr_name(attr: &Attr) -> u32
+    ensures { result ≡ name_of attr.now }
+{
+    match attr {
+        Attr::Bare { name } | Attr::Fixed { name, .. } | Attr::Shown { name, .. } => *name,
+    }
 }
 
 impl Attributes {
@@ -41,8 +50,36 @@ impl Attributes {
         ensures { result ≡ [] }
     {
         Attributes {
-            attrs: Attrs::new(alloc),
+            attrs: Vec::new(alloc),
             names: HashSet::new(alloc),
         }
+    }
+
+    /// Whether there is one of this name.
+    pub fn has(&self, name: u32) -> bool
+        ensures { result ≡ list_any (λ attr. name == name_of attr) self.now }
+    {
+        self.names.contains(&name)
+    }
+
+    /// Adds the attribute at the end.
+    pub fn push(&mut self, attr: Attr) -> Result<(), AllocError>
+        ensures added { OnOk result (self.new ≡ self.old ++ attr ∷ []) }
+    {
+        let name = attr_name(&attr);
+        self.attrs.push(attr)?;
+        if let Err(_) = self.names.insert(name) {
+            self.attrs.pop();
+            return Err(AllocError);
+        }
+        Ok(())
+    }
+
+    /// The attributes alone.
+    pub fn into_attrs(self) -> Attrs
+        ensures { result ≡ self }
+    {
+        let Attributes { attrs, .. } = self;
+        Attrs::from_vec(attrs)
     }
 }

@@ -1,6 +1,6 @@
 //! The names of a store's fields.
 
-ghost use Rattle.std.specs.Prelude.{◌≡◌, ◌==◌, [], ◌∷◌, ◌++◌, IfOk, OnOk, position};
+ghost use Rattle.std.specs.Prelude.{◌≡◌, ◌==◌, [], ◌∷◌, ◌++◌, ◌<◌, IfOk, OnOk, OnErr, IfSome, length, position};
 
 use std::alloc::{AllocError, Global};
 use std::collections::HashMap;
@@ -36,6 +36,38 @@ impl Fields {
             places: HashMap::new(alloc),
         }
     }
+
+    /// The names, in text order.
+    pub fn as_slice(&self) -> &[u32]
+        ensures { result.now ≡ self.now }
+    {
+        self.names.as_slice()
+    }
+
+    /// The place of the first field of this name, counted from 0.
+    pub fn place(&self, name: u32) -> Option<usize>
+        ensures place { result ≡ position (λ field. field == name) self.now }
+        ensures within { IfSome result (λ place. place < length self.now) }
+    {
+        self.places.get(&name).copied()
+    }
+
+    /// Adds a field at the end.
+    pub fn push(&mut self, name: u32) -> Result<(), AllocError>
+        ensures added { OnOk result (self.new ≡ self.old ++ name ∷ []) }
+        ensures unchanged { OnErr result (self.new ≡ self.old) }
+    {
+        let place = self.names.len();
+        let known = self.places.contains_key(&name);
+        self.names.push(name)?;
+        if !known {
+            if let Err(_) = self.places.insert(name, place) {
+                self.names.pop();
+                return Err(AllocError);
+            }
+        }
+        Ok(())
+    }
 }
 
 /// The names of a store's fields, shared by its declaration and each `each` over it. Contracts see the names alone.
@@ -67,5 +99,13 @@ impl SharedFields {
     {
         let fields = self.fields.clone()?;
         Ok(SharedFields { fields })
+    }
+
+    /// The place of the first field of this name, counted from 0.
+    pub fn place(&self, name: u32) -> Option<usize>
+        ensures place { result ≡ position (λ field. field == name) self.now }
+        ensures within { IfSome result (λ place. place < length self.now) }
+    {
+        self.fields.as_ref().place(name)
     }
 }

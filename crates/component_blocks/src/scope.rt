@@ -1,6 +1,7 @@
 //! The names that are seen at a place.
 
-ghost use Rattle.std.specs.Prelude.{◌≡◌, ◌==◌, [], ◌∷◌, IfOk, OnOk};
+ghost use Rattle.std.specs.Prelude.{◌≡◌, ◌==◌, ◌+◌, ◌<◌, ◌≤◌, ◌^◌, ℕ, [], ◌∷◌, None, IfOk, OnOk, OnErr, length, find, vec_len, slice_index_or, slice_get};
+ghost use Rattle.std.specs.Option.{option_copied, option_map};
 
 use crate::fields::SharedFields;
 use grammar::Stack;
@@ -66,7 +67,31 @@ impl Model for Scope {
     ghost invariant = { λ s. ((name : ℕ) → slice_index_or s.places.items name None ≡ place_of name (seen_in s.seen)) × KnowsHidden s.seen };
 }
 
+/// The declaration at a place, counted from the first one.
+fn declaration_at(seen: &[Seen], place: usize) -> Option<&Declaration>
+    ensures { option_copied result ≡ option_map (λ s. s.declaration) (slice_get seen.now place) }
+{
+    let seen = seen.get(place)?;
+    Some(&seen.declaration)
+}
+
+/// Makes the list at least `len` long, by names that are not declared.
+fn grow(places: &mut Vec<Option<usize>>, len: usize) -> Result<(), AllocError>
+    ensures long { OnOk result (len ≤ vec_len places.new) }
+    ensures same { (name : ℕ) → slice_index_or places.new.items name None ≡ slice_index_or places.old.items name None }
+{
+    while places.len() < len {
+        places.push(None)?;
+    }
+    Ok(())
+}
+
 impl Scope {
+    ghost use Rattle.std.specs.Prelude.{◌≡◌, ◌==◌, [], ◌∷◌, OnOk, OnErr, length, find};
+    ghost use Rattle.std.specs.Option.{option_copied};
+    ghost use Rattle.component_meaning.specs.Actions.{rest};
+    ghost use Rattle.component_blocks.specs.Scope.{oldest};
+
     /// No declarations.
     pub fn new(alloc: Global) -> Scope
         ensures { result ≡ [] }
@@ -74,6 +99,58 @@ impl Scope {
         Scope {
             seen: Stack::new(alloc),
             places: Vec::new(alloc),
+        }
+    }
+
+    /// How many declarations are seen.
+    pub fn len(&self) -> usize
+        ensures { result ≡ length self.now }
+    {
+        self.seen.as_slice().len()
+    }
+
+    /// The last declaration of the name.
+    pub fn find(&self, name: u32) -> Option<&Declaration>
+        ensures { option_copied result ≡ find (λ d. d.name == name) self.now }
+    {
+        let place = *self.places.get(name as usize)?;
+        declaration_at(self.seen.as_slice(), place?)
+    }
+
+    /// The declaration is seen from here on.
+    pub fn declare(&mut self, declaration: Declaration) -> Result<(), AllocError>
+        ensures { OnOk result (self.new ≡ declaration ∷ self.old) }
+    {
+        let at = declaration.name as usize;
+        grow(&mut self.places, at + 1)?;
+        let hidden = self.places[at];
+        let place = self.seen.as_slice().len();
+        self.seen.push(Seen {
+            declaration,
+            hidden,
+        })?;
+        self.places[at] = Some(place);
+        Ok(())
+    }
+
+    /// The last declaration is no longer seen, and one that it hid is seen again.
+    fn forget(&mut self)
+        ensures { self.new ≡ rest self.old }
+    {
+        if let Some(last) = self.seen.pop() {
+            let at = last.declaration.name as usize;
+            if at < self.places.len() {
+                self.places[at] = last.hidden;
+            }
+        }
+    }
+
+    /// Only the first so many declarations are seen from here on.
+    pub fn keep(&mut self, len: usize)
+        ensures { self.new ≡ oldest len self.old }
+    {
+        while self.len() > len {
+            self.forget();
         }
     }
 }
