@@ -5,4 +5,5 @@ pub mod ReadsLemmas
 pub mod AskedLemmas
 pub mod PlanLemmas
 pub mod PlanRowsLemmas
+pub mod PlanValuesLemmas
 pub mod NamesLemmas

@@ -4,3 +4,5 @@ pub mod Packing
 pub mod Texts
 pub mod Plan
 pub mod PlanRows
+pub mod PlanValues
+pub mod Reserved

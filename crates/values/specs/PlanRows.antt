@@ -1,7 +1,8 @@
 -- Small plans, for the worked rows.
 use Rattle.std.specs.Prelude.{ℕ, List, [], Some, None}
 use Rattle.values.specs.declared.code.Code.TheVariants.{Empty}
-use Rattle.values.specs.declared.expr.Expr.TheVariants.{Lit, Read}
+use Rattle.values.specs.declared.code.Op.TheVariants.{Add}
+use Rattle.values.specs.declared.expr.Expr.TheVariants.{Lit, Read, Binary}
 use Rattle.values.specs.declared.plan.Kind.{Kind}
 use Rattle.values.specs.declared.plan.Kind.TheVariants.{Signal}
 use Rattle.values.specs.declared.plan.PlanNode.{PlanNode}
@@ -18,6 +19,10 @@ signal_in o = record { kind = Signal; expr = Lit Empty; owner = o }
 -- a node of this kind and of owner 0 that reads this row
 abbrev pub reader : Kind → ℕ → PlanNode
 reader k row = record { kind = k; expr = Read row; owner = 0 }
+
+-- a node of this kind and of owner 0 that adds this row to itself
+abbrev pub doubler : Kind → ℕ → PlanNode
+doubler k row = record { kind = k; expr = Binary Add (Read row) (Read row); owner = 0 }
 
 abbrev pub root : PlanOwner
 root = record { parent = None; cleanups = [] }

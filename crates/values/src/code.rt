@@ -2,11 +2,15 @@
 ghost use Rattle.std.specs.Prelude.{◌≡◌};
 ghost use Rattle.values.specs.Evaluation.{truth, number_of, combined};
 
-/// A value: nothing, a number, or a text by its index in a table of texts.
+/// A value: nothing, a number, or a text. Two values are the same where they are of one form and
+/// their numbers or texts are (`docs/SEMANTICS.md`, "Values").
 #[derive(Clone, Copy, Debug, PartialEq, Eq, Hash)]
 pub enum Code {
+    /// Nothing: what comes of a side that is no number, of a division by 0, and of what is not there.
     Empty,
+    /// A whole number.
     Number(i32),
+    /// A text, by its number in a table of texts. Text 0 is the empty one.
     Word(u32),
 }
 
@@ -33,15 +37,22 @@ impl From<bool> for Code {
     }
 }
 
-/// An operator of two operands.
+/// An operator of two operands. Both are evaluated, the left one first.
 #[derive(Clone, Copy, Debug, PartialEq, Eq)]
 pub enum Op {
+    /// The sum.
     Add,
+    /// The difference.
     Sub,
+    /// The product.
     Mul,
+    /// The quotient, rounded towards 0.
     Div,
+    /// The remainder, which has the sign of the left side.
     Rem,
+    /// 1 where both are the same value, of whatever form, else 0.
     Equal,
+    /// 1 where the left number is below the right one, else 0.
     Less,
 }
 

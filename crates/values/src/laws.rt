@@ -1,13 +1,16 @@
 //! Laws of the definitions that the crate's contracts cite. All but `repacked` are contracts of
 //! functions that do nothing.
-ghost use Rattle.std.specs.Prelude.{◌≡◌, ◌⊎◌, ◌↔◌, ◌≤◌, ℕ, List, [], ◌∷◌, Some, false, pos, negsuc, take, slice_get, length, Contains};
+ghost use Rattle.std.specs.Prelude.{◌≡◌, ◌⊎◌, ◌↔◌, ◌<◌, ◌≤◌, ℕ, List, [], ◌∷◌, Some, true, false, pos, negsuc, take, slice_get, length, Contains};
 ghost use Rattle.values.specs.declared.code.Code.{Code as CodeValue};
 ghost use Rattle.values.specs.declared.expr.Expr.{Expr as ExprValue};
+ghost use Rattle.values.specs.declared.plan.Plan.{Plan as PlanValue};
+ghost use Rattle.values.specs.declared.plan.PlanNode.{PlanNode as NodeValue};
 ghost use Rattle.values.specs.Evaluation.{truth, combined, value_of, reads_of};
 ghost use Rattle.values.specs.Attempt.{Agrees, known_by, answer, tried_of};
 ghost use Rattle.values.specs.Packing.{packed, IsValue};
 ghost use Rattle.values.specs.Plan.{rows_in, names_of, IsLawful};
-ghost use Rattle.values.specs.PlanRows.{plan_of, signal_in, reader, root, inside};
+ghost use Rattle.values.specs.PlanRows.{plan_of, signal_in, reader, doubler, root, inside};
+ghost use Rattle.values.specs.PlanValues.{is_derived, plan_values, plan_value, ReadsBack, SolvesPlan, HaveSameSources};
 ghost use Rattle.values.specs.Texts.{IsTable};
 
 use crate::code::{Code, Op};
@@ -94,4 +97,47 @@ pub fn lawful_plans_are_told_apart()
     ensures stranger { ¬ IsLawful (plan_of (signal_in 1 ∷ []) (root ∷ [])) }
     ensures second_root { ¬ IsLawful (plan_of [] (root ∷ root ∷ [])) }
     ensures own_parent { ¬ IsLawful (plan_of [] (root ∷ inside 1 ∷ [])) }
+{}
+
+/// Plan evaluation solves the plan's equations, and nothing else does. The plans that it is told of
+/// are the lawful ones, among others.
+pub fn plans_have_one_solution()
+    ensures lawful { (plan : PlanValue) → IsLawful plan → ReadsBack plan.nodes }
+    ensures solves { (nodes : List NodeValue) (sources : ℕ → CodeValue) → ReadsBack nodes →
+        SolvesPlan nodes sources (plan_value nodes sources) }
+    ensures alone { (nodes : List NodeValue) (sources values : ℕ → CodeValue) → ReadsBack nodes →
+        SolvesPlan nodes sources values → (row : ℕ) → row < length nodes →
+        values row ≡ plan_value nodes sources row }
+    ensures all_rows { (nodes : List NodeValue) (sources : ℕ → CodeValue) →
+        length (plan_values nodes sources) ≡ length nodes }
+{}
+
+/// A source has its own value. The value of a derived row is decided by the rows that it reads, all
+/// of them before it.
+pub fn rows_are_decided_by_their_reads()
+    ensures source { (nodes : List NodeValue) (sources : ℕ → CodeValue) → ReadsBack nodes →
+        (row : ℕ) (node : NodeValue) → slice_get nodes row ≡ Some node →
+        is_derived node.kind ≡ false → plan_value nodes sources row ≡ sources row }
+    ensures derived { (nodes : List NodeValue) (sources : ℕ → CodeValue) → ReadsBack nodes →
+        (row : ℕ) (node : NodeValue) → slice_get nodes row ≡ Some node →
+        is_derived node.kind ≡ true → (values : ℕ → CodeValue) →
+        ((q : ℕ) → Contains (reads_of node.expr (plan_value nodes sources)) q → plan_value nodes sources q ≡ values q) →
+        plan_value nodes sources row ≡ value_of node.expr values }
+    ensures before { (nodes : List NodeValue) → ReadsBack nodes →
+        (row : ℕ) (node : NodeValue) → slice_get nodes row ≡ Some node →
+        (values : ℕ → CodeValue) (q : ℕ) → Contains (reads_of node.expr values) q → q < row }
+{}
+
+/// What is given for derived rows does not count.
+pub fn sources_decide_a_plan()
+    ensures { (nodes : List NodeValue) (s t : ℕ → CodeValue) → HaveSameSources nodes s t →
+        plan_value nodes s ≡ plan_value nodes t }
+{}
+
+/// Worked rows of plan evaluation: a signal, a memo that doubles it and an effect that reads the
+/// memo, and what stands past the end.
+pub fn a_small_plan_is_evaluated()
+    ensures { (given : CodeValue) →
+        plan_values (signal_in 0 ∷ doubler Kind.Memo 0 ∷ reader Kind.Effect 1 ∷ []) (λ _. given)
+        ≡ given ∷ combined Op.Add given given ∷ combined Op.Add given given ∷ [] }
 {}

@@ -8,6 +8,7 @@ pub mod limits;
 mod memory;
 mod packing;
 mod plan;
+mod reserved;
 mod sequence;
 mod texts;
 mod tried;
@@ -19,6 +20,7 @@ pub use plan::{
     Aim, Disposal, Fact, Facts, Kind, Left, Noted, Plan, PlanNode, PlanNodes, PlanOwner,
     PlanOwners, Pumped, Stop,
 };
+pub use reserved::Reserved;
 pub use sequence::{Codes, Numbers, Sequence};
 pub use texts::{TextRefusal, Texts};
 pub use tried::{Tried, attempt};

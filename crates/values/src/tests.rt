@@ -1,6 +1,6 @@
 //! Worked rows, and each call once.
 
-use crate::{Code, Expr, Numbers, Op, Texts, Tried, attempt};
+use crate::{Code, Expr, Kind, Numbers, Op, Reserved, Texts, Tried, attempt};
 use indexmap::{IndexMap, IndexSet};
 use sqlite_items::Boxed;
 use std::alloc::{AllocError, Global};
@@ -101,6 +101,57 @@ fn a_sequence_grows_at_its_end(rt: HostRuntime) -> Result<(), Fail> {
     let again = Numbers::from_vec(numbers.into_vec());
     assert_eq!(rt; again.as_slice(), [7, 9].as_slice());
     Ok(())
+}
+
+#[test]
+fn a_copy_has_items_of_its_own(rt: HostRuntime) -> Result<(), Fail> {
+    let mut numbers = Numbers::new(rt.alloc());
+    numbers.push(7)?;
+    numbers.push(9)?;
+    let copied = numbers.copy(rt.alloc())?;
+    assert_eq!(rt; numbers.len(), 2);
+    numbers.set(1, 5);
+    assert_eq!(rt; numbers.as_slice(), [7, 5].as_slice());
+    numbers.clear();
+    assert!(rt; numbers.is_empty());
+    assert_eq!(rt; copied.as_slice(), [7, 9].as_slice());
+    Ok(())
+}
+
+#[test]
+fn a_reserved_list_grows_into_its_room(rt: HostRuntime) -> Result<(), Fail> {
+    let mut list = Reserved::with_room(rt.alloc(), 2)?;
+    assert!(rt; list.is_empty());
+    assert_eq!(rt; list.spare(), 2);
+    list.push(Code::Number(7));
+    list.push(Code::Number(9));
+    assert_eq!(rt; list.spare(), 0);
+    assert_eq!(rt; list.at(1), Some(&Code::Number(9)));
+    assert_eq!(rt; list.at(2), None);
+    assert_eq!(rt; list.pop(), Some(Code::Number(9)));
+    assert_eq!(rt; list.len(), 1);
+    list.set(0, Code::Empty);
+    assert_eq!(rt; list.as_slice(), [Code::Empty].as_slice());
+    list.clear();
+    assert_eq!(rt; list.spare(), 2);
+    list.copy_from(&[Code::Word(1), Code::Word(2)]);
+    let items = list.into_sequence();
+    assert_eq!(rt; items.as_slice(), [Code::Word(1), Code::Word(2)].as_slice());
+    Ok(())
+}
+
+#[test]
+fn memos_and_effects_are_derived(rt: HostRuntime) {
+    let rows = [
+        (Kind::Signal, false),
+        (Kind::Field, false),
+        (Kind::Load, false),
+        (Kind::Memo, true),
+        (Kind::Effect, true),
+    ];
+    for (kind, derived) in rows {
+        assert_eq!(rt; kind.is_derived(), derived);
+    }
 }
 
 #[test]

@@ -3,20 +3,20 @@ ghost use Rattle.std.specs.Prelude.{◌≡◌, ℕ, [], ◌∷◌, ◌↔◌, �
 ghost use Rattle.std.specs.Option.{option_copied};
 ghost use Rattle.values.specs.Texts.{index_of, with_text, IsTable};
 
+use crate::limits::MOST_TEXTS;
 use crate::memory::NoMemory;
 use indexmap::IndexSet;
 use std::alloc::{AllocError, Global};
 use std::marker::Model;
 use thiserror::Error;
 
-/// As many texts as a table holds, the empty one among them.
-const MOST_TEXTS: usize = 65536;
-
 /// Why a text was not added.
 #[derive(Clone, Copy, Debug, PartialEq, Eq, Error)]
 pub enum TextRefusal {
+    /// The table holds 65,536 texts, and this is none of them.
     #[error("the table of texts is full")]
     Full,
+    /// Memory could not be had.
     #[error("out of memory")]
     NoMemory,
 }
@@ -76,12 +76,13 @@ impl Texts {
         Some(text.as_str())
     }
 
-    /// The number of the text, which is added at the end where the table does not hold it yet.
+    /// The number of the text, which is added at the end where the table does not hold it yet. After
+    /// an error the table is as it was.
     pub fn add(&mut self, text: &str) -> Result<u32, TextRefusal>
         ensures table { IfOk result (λ index. self.new ≡ with_text text.now self.old) }
         ensures index { IfOk result (λ index. index_of text.now self.new ≡ Some index) }
         ensures full { (result ≡ Err TextRefusal.Full)
-            ↔ ((index_of text.now self.old ≡ None) × (length self.old ≡ 65536)) }
+            ↔ ((index_of text.now self.old ≡ None) × (length self.old ≡ MOST_TEXTS)) }
         ensures unchanged { OnErr result (self.new ≡ self.old) }
     {
         if let Some(index) = self.find(text) {
