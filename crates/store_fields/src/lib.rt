@@ -3,6 +3,9 @@
 
 mod edit;
 mod row;
+mod rows;
+mod table;
 
-pub use edit::{Edit, EditOp, Verdict};
+pub use edit::{Edit, EditOp, Verdict, Verdicts};
 pub use row::Row;
+pub use rows::Rows;
