@@ -81,8 +81,7 @@ moved-map rows from to = ap (λ o. option_map_or (λ e. insert (remove (map pair
 pub removed_at : (old new : List (Code × Row)) (key : Code) (i : ℕ) → IsPaired old → Some i ≡ place_of key (values_of old) → new ≡ remove old i → (edited (values_of new) Done ≡ removed (values_of old) key) × IsPaired new
 removed_at old new key i p at e =
     let rows = values_of old in
-    let now : new ≡ map paired (remove rows i) = e ∙ ap (λ es. remove es i) p ∙ remove-map paired rows i in
-    (
+    let now : new ≡ map paired (remove rows i) = e ∙ ap (λ es. remove es i) p ∙ remove-map paired rows i in (
       ap (λ r. edited r Done) (values_are new _ now) ∙ ap (λ o. option_map_or (λ k. made (remove rows k)) o (edited rows Absent)) at,
       IsPaired-map new _ now,
     )
@@ -104,8 +103,7 @@ moved_at old new key place from last p at within is e =
     let rows = values_of old in
     let to : min place last ≡ min place (length rows - 1) = ap (λ n. min place n) (is ∙ ap (λ n. n - 1) (sym (length-map_here (λ (x : Code × Row). x.1) old))) in
     let now : new ≡ map paired (move_index rows from (min place (length rows - 1))) = e ∙ ap (λ t. move_index old from t) to ∙ ap (λ es. move_index es from (min place (length rows - 1))) p ∙ moved-map rows from _ in
-    let row = slice_get-within rows from within in
-    (
+    let row = slice_get-within rows from within in (
       ap (λ r. edited r Done) (values_are new _ now) ∙ moved_row rows key place from row.0 at row.1 within,
       IsPaired-map new _ now,
     )
@@ -181,11 +179,10 @@ inserted_at old new max row place index found_it p at absent few index_is e =
     ∙ ap (λ es. insert es (min place (length rows)) (paired row)) p
     ∙ insert-map paired rows (min place (length rows)) row
     in
-    let room : nat_le max (length rows) ≡ false = grind (arith, few, count_rows) in
-    (
+    let room : nat_le max (length rows) ≡ false = grind (arith, few, count_rows) in (
       ap (λ r. edited r Done) (values_are new _ now)
-      ∙ sym (ap (λ b. if b then edited rows AtMax else made (put_at rows place row)) room)
-      ∙ ap (λ o. option_map_or (λ _. edited rows Present) o (if nat_le max (length rows) then edited rows AtMax else made (put_at rows place row))) none,
+          ∙ sym (ap (λ b. if b then edited rows AtMax else made (put_at rows place row)) room)
+          ∙ ap (λ o. option_map_or (λ _. edited rows Present) o (if nat_le max (length rows) then edited rows AtMax else made (put_at rows place row))) none,
       IsPaired-map new _ now,
     )
 
@@ -203,11 +200,10 @@ field_at old new key i field value row fields p at is set e =
     e ∙ ap (λ fs. set_value_at old i (record { key = row.key; fields = fs })) set
     ∙ ap (λ es. set_value_at es i (record { key = row.key; fields = slice_set row.fields field value })) p
     ∙ set_at rows i row _ is refl
-    in
-    (
+    in (
       ap (λ r. edited r Done) (values_are new _ now)
-      ∙ ap (λ o. option_map_or (λ x. made (slice_set rows i (record x { fields = slice_set x.fields field value }))) o (edited rows Absent)) (sym is)
-      ∙ ap (λ o. option_map_or (λ k. option_map_or (λ x. made (slice_set rows k (record x { fields = slice_set x.fields field value }))) (slice_get rows k) (edited rows Absent)) o (edited rows Absent)) at,
+          ∙ ap (λ o. option_map_or (λ x. made (slice_set rows i (record x { fields = slice_set x.fields field value }))) o (edited rows Absent)) (sym is)
+          ∙ ap (λ o. option_map_or (λ k. option_map_or (λ x. made (slice_set rows k (record x { fields = slice_set x.fields field value }))) (slice_get rows k) (edited rows Absent)) o (edited rows Absent)) at,
       IsPaired-map new _ now,
     )
 
@@ -256,13 +252,14 @@ moved_keeps max width rows key place kept = by (place_of key rows)
         let others = remove rows i in
         record {
           few =
-            let n = length-remove rows i within in
-            let m = length-insert others (min place (length others)) row (omega arith) in
-            omega (arith, n, m, kept.few);
+              let n = length-remove rows i within in
+              let m = length-insert others (min place (length others)) row (omega arith) in
+              omega (arith, n, m, kept.few);
           wide =
-            let P : Row → Type 0 = λ r. length r.fields ≡ width in
-            All-insert P others (min place (length others)) row (All-remove P rows i kept.wide) (subst P (get_or_from_slice_get rows i row row is) (All-get_or P rows i row within kept.wide));
+              let P : Row → Type 0 = λ r. length r.fields ≡ width in
+              All-insert P others (min place (length others)) row (All-remove P rows i kept.wide) (subst P (get_or_from_slice_get rows i row row is) (All-get_or P rows i row within kept.wide));
         }
+
     by : (o : Option ℕ) → IsStore max width (option_map_or (λ i. option_map_or (λ row. made (put_at (remove rows i) place row)) (slice_get rows i) (edited rows Absent)) o (edited rows Absent)).rows
     by None = kept
     by (Some i) = at i (slice_get rows i) refl

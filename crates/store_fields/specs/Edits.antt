@@ -52,7 +52,7 @@ put_at others place row = insert others (min place (length others)) row
 abbrev pub inserted : ℕ → List Row → Row → ℕ → Edited
 inserted max rows row place =
     option_map_or (λ _. edited rows Present) (place_of row.key rows)
-      (if nat_le max (length rows) then edited rows AtMax else made (put_at rows place row))
+    (if nat_le max (length rows) then edited rows AtMax else made (put_at rows place row))
 
 -- the row with the key taken out
 abbrev pub removed : List Row → Code → Edited
