@@ -1,5 +1,5 @@
 -- Blocks and elements that are open, as they are kept.
-use Rattle.std.specs.Prelude.{◌≡◌, ◌≤◌, Bool, Option, Some, None, List, [], ◌∷◌, length}
+use Rattle.std.specs.Prelude.{◌≡◌, ◌≤◌, Bool, true, false, Option, Some, None, List, [], ◌∷◌, length}
 use Rattle.component_meaning.specs.State as state
 use Rattle.component_meaning.specs.State.{Declared, Open, area_frame, if_frame, each_frame, element_frame, standing_in, rows_in}
 use Rattle.component_blocks.specs.declared.block.Block.{Block}
@@ -12,6 +12,10 @@ frame_of (frame.Area id name owner) = area_frame id name owner
 frame_of (frame.If id cond) = if_frame id cond
 frame_of (frame.Each id rows) = each_frame id rows
 frame_of (frame.Element tag closed attrs) = element_frame tag closed attrs
+
+abbrev pub is_area : state.Frame → Bool
+is_area (area_frame id name owner) = true
+is_area _ = false
 
 -- Each began where so many declarations were seen, and what is outside of it is known from that.
 abbrev pub opened_in : List Declared → List Block → List Open

@@ -6,9 +6,10 @@ mod attributes;
 mod block;
 mod blocks;
 mod fields;
+mod rows;
 mod scope;
 
-pub use block::Rows;
 pub use blocks::Blocks;
 pub use fields::{Fields, SharedFields};
+pub use rows::Rows;
 pub use scope::{Declaration, Kind};

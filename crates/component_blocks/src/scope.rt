@@ -3,7 +3,8 @@
 ghost use Rattle.std.specs.Prelude.{◌≡◌, ◌==◌, ◌+◌, ◌<◌, ◌≤◌, ◌^◌, ℕ, [], ◌∷◌, None, IfOk, OnOk, OnErr, length, find, vec_len, slice_index_or, slice_get};
 ghost use Rattle.std.specs.Option.{option_copied, option_map};
 
-use crate::fields::SharedFields;
+use crate::fields::{Fields, SharedFields};
+use crate::rows::Rows;
 use grammar::Stack;
 use std::alloc::{AllocError, Global};
 use std::marker::Model;
@@ -20,6 +21,37 @@ pub enum Kind {
     Area,
 }
 
+impl Kind {
+    ghost use Rattle.std.specs.Prelude.{◌≡◌, IfOk};
+    ghost use Rattle.component_meaning.specs.Names.{fields_of};
+    ghost use Rattle.component_blocks.specs.Scope.{what_of};
+
+    /// A further owner of the same.
+    fn share(&self) -> Result<Kind, AllocError>
+        ensures { IfOk result (λ kind. kind ≡ self.now) }
+    {
+        match self {
+            Kind::Signal => Ok(Kind::Signal),
+            Kind::Memo => Ok(Kind::Memo),
+            Kind::Effect => Ok(Kind::Effect),
+            Kind::Resource => Ok(Kind::Resource),
+            Kind::Load => Ok(Kind::Load),
+            Kind::Store(fields) => Ok(Kind::Store(fields.share()?)),
+            Kind::Area => Ok(Kind::Area),
+        }
+    }
+
+    /// The fields of a store, and none where it is no store.
+    fn fields(&self, alloc: Global) -> Result<SharedFields, AllocError>
+        ensures { IfOk result (λ fields. fields ≡ fields_of (what_of self.now)) }
+    {
+        match self {
+            Kind::Store(fields) => fields.share(),
+            _ => SharedFields::new(alloc, Fields::new(alloc)),
+        }
+    }
+}
+
 /// A declaration: a name, by its number in the table of texts, and the id that it stands for.
 #[derive(Drop)]
 pub struct Declaration {
@@ -29,12 +61,87 @@ pub struct Declaration {
 }
 
 impl Model for Declaration {
+    ghost use Rattle.std.specs.Prelude.{◌+◌, ◌<◌, ◌^◌, length};
     ghost use Rattle.component_meaning.specs.State.{Declared};
+    ghost use Rattle.component_meaning.specs.Names.{fields_of};
     ghost use Rattle.component_blocks.specs.Scope.{what_of};
 
     ghost Value = { Declared };
 
     ghost view = { λ d. record { name = d.name; id = d.id; what = what_of d.kind } };
+
+    ghost invariant = { λ d. d.id + 2 + length (fields_of (what_of d.kind)) < 2 ^ 32 };
+}
+
+impl Declaration {
+    ghost use Rattle.std.specs.Prelude.{◌≡◌, ◌+◌, ◌<◌, ◌^◌, length, Some, IfOk};
+    ghost use Rattle.component_meaning.specs.Names as names;
+    ghost use Rattle.component_blocks.specs.Scope.{what_of};
+
+    /// A declaration of the name. All ids that it takes are numbers: its own, the one behind it, and one for each field.
+    pub fn new(name: u32, id: u32, kind: Kind) -> Declaration
+        requires { id + 2 + length (names.fields_of (what_of kind)) < 2 ^ 32 }
+        ensures { result ≡ record { name = name; id = id; what = what_of kind } }
+    {
+        Declaration { name, id, kind }
+    }
+
+    /// The id that the name stands for.
+    pub fn id(&self) -> u32
+        ensures { result ≡ self.now.id }
+    {
+        self.id
+    }
+
+    /// Whether it has a value: a signal, memo or load.
+    pub fn has_value(&self) -> bool
+        ensures { result ≡ names.has_value self.now.what }
+    {
+        match self.kind {
+            Kind::Signal | Kind::Memo | Kind::Load => true,
+            Kind::Effect | Kind::Resource | Kind::Store(_) | Kind::Area => false,
+        }
+    }
+
+    /// Whether it is a resource.
+    pub fn is_resource(&self) -> bool
+        ensures { result ≡ names.is_resource self.now.what }
+    {
+        match self.kind {
+            Kind::Resource => true,
+            _ => false,
+        }
+    }
+
+    /// Whether it is a store.
+    pub fn is_store(&self) -> bool
+        ensures { result ≡ names.is_store self.now.what }
+    {
+        match self.kind {
+            Kind::Store(_) => true,
+            _ => false,
+        }
+    }
+
+    /// A further owner of the same declaration.
+    pub fn share(&self) -> Result<Declaration, AllocError>
+        ensures { IfOk result (λ declaration. declaration ≡ self.now) }
+    {
+        let kind = self.kind.share()?;
+        Ok(Declaration {
+            name: self.name,
+            id: self.id,
+            kind,
+        })
+    }
+
+    /// The store that it declares, with its fields; one with no fields, where it is no store.
+    pub fn rows(&self, alloc: Global) -> Result<Rows, AllocError>
+        ensures { IfOk result (λ rows. rows ≡ names.rows_from (Some self.now)) }
+    {
+        let fields = self.kind.fields(alloc)?;
+        Ok(Rows::new(self.id, fields))
+    }
 }
 
 /// A declaration, with the place of the one that it hides: the last one before it of the same name.
