@@ -1,6 +1,5 @@
 -- The checks of a token of a script at its place, and their order.
-use Rattle.std.specs.Prelude.{ℕ, nat_lt, nat_le, ◌==◌, ◌&&◌, ◌||◌, not, Bool, true, false, is_none, List, [], ◌∷◌, length, find, Option, Some, None}
-use Rattle.std.specs.List.{list_any}
+use Rattle.std.specs.Prelude.{ℕ, nat_lt, nat_le, ◌&&◌, ◌||◌, not, Bool, true, false, is_none, List, [], ◌∷◌, length, find, slice_get, unwrap_or, Option, Some, None}
 use Rattle.values.specs.declared.limits.TheConstants.{MOST_PHASES, MOST_LANES}
 use Rattle.text_lexer.specs.declared.token.Mark.TheVariants as mark
 use Rattle.text_lexer.specs.declared.token.Token.{Token}
@@ -154,7 +153,7 @@ fails_place text t a x next = is_path_name t && stands_wrong text t (found_as te
 
 abbrev pub is_given : Option ℕ → State → Bool
 is_given None a = false
-is_given (Some i) a = list_any (λ j. j == i) a.given
+is_given (Some i) a = unwrap_or (slice_get a.given i) false
 
 abbrev pub fails_taken : List ℕ → Terminal → State → Token → Bool
 fails_taken text terminal.InsertedField a x = is_given (field_of text a x) a

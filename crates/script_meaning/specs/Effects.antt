@@ -1,5 +1,5 @@
 -- What a token of a script at its place does to the state, and what an action makes of it.
-use Rattle.std.specs.Prelude.{ℕ, ◌+◌, unwrap_or, slice_set, List, [], ◌∷◌, Option, Some, None}
+use Rattle.std.specs.Prelude.{ℕ, ◌+◌, true, false, unwrap_or, slice_set, map, List, [], Option, Some, None}
 use Rattle.values.specs.declared.code.Code.{Code}
 use Rattle.values.specs.declared.code.Code.TheVariants.{Empty, Word}
 use Rattle.values.specs.Texts.{with_text}
@@ -17,7 +17,7 @@ use Rattle.script_items.specs.Script.{with_phase, with_lane, with_op}
 use Rattle.component_meaning.specs.Names.{value_in, content_in, number_in, negated_in, number_with}
 use Rattle.script_meaning.specs.Names.{Named, nothing, a_signal, a_memo, a_load, a_store}
 use Rattle.script_meaning.specs.State.{State}
-use Rattle.script_meaning.specs.Checks.{owner_of, found_as, field_of}
+use Rattle.script_meaning.specs.Checks.{owner_of, found_as, fields_of, field_of}
 
 -- ---- tokens
 
@@ -40,7 +40,7 @@ with_row_field (Some i) a = record a { named = a_signal (id_of a.named + 2 + i) 
 
 abbrev pub with_given : Option ℕ → State → State
 with_given None a = a
-with_given (Some i) a = record a { given = i ∷ a.given; field = i }
+with_given (Some i) a = record a { given = slice_set a.given i true; field = i }
 
 abbrev pub with_key : Code → State → State
 with_key key a = record a { key = Some key }
@@ -87,7 +87,7 @@ edited e a = done (op.Change (record { store = id_of a.named; op = e })) a
 
 abbrev pub perform : Action → State → State
 perform action.BeginPath a = record a { named = nothing; key = None }
-perform action.BeginEntries a = record a { values = starts_of a.named; given = []; place = END_OF_ROWS }
+perform action.BeginEntries a = record a { values = starts_of a.named; given = map (λ f. false) (fields_of a.named); place = END_OF_ROWS }
 perform action.AddValue a = record a { values = slice_set a.values a.field a.literal }
 perform action.MakeSet a = done (op.Set (id_of a.named) a.key a.literal) a
 perform action.MakeGet a = done (op.Get (id_of a.named) a.key) a

@@ -1,5 +1,5 @@
 -- What was read of a script text so far.
-use Rattle.std.specs.Prelude.{ℕ, List, [], Option, None}
+use Rattle.std.specs.Prelude.{ℕ, Bool, List, [], Option, None}
 use Rattle.values.specs.declared.code.Code.{Code}
 use Rattle.values.specs.declared.code.Code.TheVariants.{Empty}
 use Rattle.script_items.specs.declared.script.TheConstants.{END_OF_ROWS}
@@ -17,9 +17,9 @@ pub record State : Type 0 where
   pub named : Named
   -- the key of a store row
   pub key : Option Code
-  -- of an insert: the value of each field, the fields that were given, and the last of them
+  -- of an insert: the value of each field, which fields were given, and the last of them
   pub values : List Code
-  pub given : List ℕ
+  pub given : List Bool
   pub field : ℕ
   -- a place behind `at` or `to`, and the last literal
   pub place : ℕ
