@@ -2,6 +2,7 @@
 //! (`docs/SEMANTICS.md`). It is the state that the reader of component texts goes through.
 #![tactic(auto)]
 
+mod accept;
 mod keys;
 mod spelling;
 mod state;

@@ -10,6 +10,7 @@ ghost use Rattle.text_grammar.specs.Kind.{kind_of};
 ghost use Rattle.component_meaning.specs.Names as spec;
 ghost use Rattle.token_parts.specs.Parts.{RefusesText};
 
+use crate::places::place_of;
 use component_items::{Count, Place, Refusal, Why};
 use std::alloc::Global;
 use std::borrow::CowStr;
@@ -67,4 +68,23 @@ pub fn add_text(texts: &mut Texts, text: &str, place: Place) -> Result<u32, Refu
 {
     let found = texts.find(text);
     add_found(texts, found, text, place)
+}
+
+/// The number of what a text says, which is added where the table does not hold it yet. A full table refuses it at
+/// the token's place.
+pub fn add_content(
+    alloc: Global,
+    texts: &mut Texts,
+    lexer: &Lexer<'_>,
+    token: Token,
+) -> Result<u32, Refusal>
+    requires of_text { IsTokenOf lexer.now.text token }
+    requires text { is_same Text (kind_of lexer.now.text (Ok token)).kind ≡ true }
+    ensures table { OnOk result (texts.new ≡ with_text (spec.content_in lexer.now.text token) texts.old) }
+    ensures number { IfOk result (λ number. number ≡ spec.number_with (spec.content_in lexer.now.text token) texts.old) }
+    ensures room { OnOk result (spec.is_full (spec.content_in lexer.now.text token) texts.old ≡ false) }
+    ensures refused { IfErr result (RefusesText (spec.is_full (spec.content_in lexer.now.text token) texts.old) (spec.place_of token)) }
+{
+    let text = content(alloc, lexer, token).map_err(|_| Refusal::NoMemory)?;
+    add_text(texts, text.as_str(), place_of(token))
 }

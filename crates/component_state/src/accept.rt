@@ -1,0 +1,5 @@
+//! What each token does.
+
+mod literals;
+mod numbers;
+mod written;
