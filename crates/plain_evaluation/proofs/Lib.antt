@@ -8,3 +8,6 @@ pub mod Counts
 pub mod Solves
 pub mod Order
 pub mod Computes
+pub mod Begins
+pub mod Fitting
+pub mod PageLemmas

@@ -7,3 +7,4 @@ pub mod Page
 pub mod Sound
 pub mod Fits
 pub mod Rows
+pub mod Begins

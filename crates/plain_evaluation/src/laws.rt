@@ -2,10 +2,12 @@
 ghost use Rattle.std.specs.Prelude.{◌≡◌, ◌≤◌, length};
 ghost use Rattle.component_items.specs.declared.component.Component.{Component as ComponentValue};
 ghost use Rattle.component_items.specs.Kept.{IsKept};
-ghost use Rattle.plain_evaluation.specs.Fits.{RowsFit};
+ghost use Rattle.plain_evaluation.specs.Begins.{Begins};
+ghost use Rattle.plain_evaluation.specs.Fits.{Fits, RowsFit};
+ghost use Rattle.plain_evaluation.specs.Held.{Held, first_held};
 ghost use Rattle.plain_evaluation.specs.Keyed.{is_keyed};
 ghost use Rattle.plain_evaluation.specs.Sound.{IsSound, SolvesItsEquations, ReadsStandBefore};
-ghost use Rattle.plain_evaluation.specs.Written.{State, written_in};
+ghost use Rattle.plain_evaluation.specs.Written.{State, state_of, written_in};
 
 /// What a component writes out makes sense: no place stands twice, and what is named stands before it in the
 /// text and is no effect.
@@ -27,4 +29,19 @@ pub fn reads_stand_before()
 /// A component writes out no more places than a plan has nodes.
 pub fn places_are_few()
     ensures { (component : ComponentValue) (state : State) → IsKept component → RowsFit component state → length (written_in component state) ≤ 4096 }
+{}
+
+/// The first held state is as the text gives it.
+pub fn first_state_begins()
+    ensures { (component : ComponentValue) → IsKept component → Begins component (first_held component) }
+{}
+
+/// It fits its component.
+pub fn first_state_fits()
+    ensures { (component : ComponentValue) → IsKept component → Fits component (first_held component) }
+{}
+
+/// The rows of held state that fits are as the laws ask.
+pub fn fitting_state_has_fitting_rows()
+    ensures { (component : ComponentValue) (held : Held) → Fits component held → RowsFit component (state_of held) }
 {}
