@@ -3,6 +3,7 @@ pub mod AttemptLemmas
 pub mod TextsLemmas
 pub mod ReadsLemmas
 pub mod AskedLemmas
+pub mod PackingLemmas
 pub mod PlanLemmas
 pub mod PlanRowsLemmas
 pub mod PlanValuesLemmas

@@ -7,7 +7,7 @@ ghost use Rattle.values.specs.declared.plan.Plan.{Plan as PlanValue};
 ghost use Rattle.values.specs.declared.plan.PlanNode.{PlanNode as NodeValue};
 ghost use Rattle.values.specs.Evaluation.{truth, combined, value_of, reads_of};
 ghost use Rattle.values.specs.Attempt.{Agrees, known_by, answer, tried_of};
-ghost use Rattle.values.specs.Packing.{packed, IsValue};
+ghost use Rattle.values.specs.Packing.{packed, unpacked, IsValue, IsPacked};
 ghost use Rattle.values.specs.Plan.{rows_in, names_of, IsLawful};
 ghost use Rattle.values.specs.PlanRows.{plan_of, signal_in, reader, doubler, root, inside};
 ghost use Rattle.values.specs.PlanValues.{is_derived, plan_values, plan_value, ReadsBack, SolvesPlan, HaveSameSources};
@@ -54,6 +54,12 @@ pub fn three_values_are_false()
 /// No two values pack to one word.
 pub fn packing_tells_values_apart()
     ensures { (a b : CodeValue) → IsValue a → IsValue b → packed a ≡ packed b → a ≡ b }
+{}
+
+/// What was packed comes back, in definitions too.
+pub fn packing_is_undone()
+    ensures value { (code : CodeValue) → IsValue code → unpacked (packed code) ≡ code }
+    ensures word { (word : ℕ) → IsPacked word → packed (unpacked word) ≡ word }
 {}
 
 /// What was packed comes back.

@@ -1,7 +1,7 @@
 //! Values packed into words.
 ghost use Rattle.std.specs.Prelude.{◌≡◌, ◌≢◌, ◌<◌, ◌^◌, Some, IfSome, IfNone};
 ghost use Rattle.values.specs.declared.code.Code.{Code as CodeValue};
-ghost use Rattle.values.specs.Packing.{packed, IsValue};
+ghost use Rattle.values.specs.Packing.{packed, unpacked, IsValue};
 
 use crate::code::Code;
 
@@ -26,6 +26,7 @@ impl Code {
 
     /// The value that packs to the word, if one does.
     pub fn unpack(word: u64) -> Option<Code>
+        ensures value { IfSome result (λ code. code ≡ unpacked word) }
         ensures packs { IfSome result (λ code. packed code ≡ word) }
         ensures inverts { (code : CodeValue) → IsValue code → packed code ≡ word → result ≡ Some code }
         ensures none { IfNone result ((code : CodeValue) → IsValue code → packed code ≢ word) }
