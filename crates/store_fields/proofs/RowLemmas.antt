@@ -1,6 +1,7 @@
 -- The entries of a map that holds each row at its key, and what edits do to them.
 use Rattle.std.proofs.Common.{Result, Ok, Err, IfOk, OnErr, ◌≡◌, ℕ, suc, ◌+◌, ◌-◌, ◌<◌, ◌≤◌, Bool, true, false, not, Option, Some, None, List, [], ◌∷◌, ◌++◌, length, map, take, drop, min, nat_le, insert, remove, slice_get, slice_set, option_map, refl, sym, ap, subst, ◌∙◌, cond, nat_lt, zero, get_or, is_some, is_none, ◌⊎◌, inl, inr, arith, position, if◌then◌else◌, ◌==◌}
-use Rattle.std.specs.List.{All, IsDistinct, prefix_len, position_or_len, take-map, drop-map}
+use Rattle.std.proofs.lemmas.Map.Keys.{IsDistinct-head, IsDistinct-tail}
+use Rattle.std.specs.List.{All, AllByRecursion, IsDistinct, prefix_len, position_or_len, take-map, drop-map}
 use Rattle.std.specs.Option.{option_map_or}
 use Rattle.std.proofs.lemmas.Bool.{cases_Bool, eqb-true}
 use Rattle.std.specs.Map.{keys_of, values_of}
@@ -14,7 +15,7 @@ use Rattle.values.specs.declared.code.Code.{Code}
 use Rattle.values.specs.contracts.code.CodePartialEq.TheImpl.{ghosts}
 use Rattle.values.specs.declared.memory.NoMemory.{NoMemory}
 use Rattle.values.specs.Evaluation.{is_same}
-use Rattle.store_fields.proofs.KeyLemmas.{eq_is_same}
+use Rattle.store_fields.proofs.KeyLemmas.{eq_is_same, apart_flips}
 use Rattle.store_fields.specs.declared.row.Row.{Row}
 use Rattle.store_fields.specs.declared.edit.EditOp.{EditOp}
 use Rattle.store_fields.specs.declared.edit.EditOp.TheVariants as ops
@@ -22,7 +23,7 @@ use Rattle.store_fields.specs.declared.edit.Verdict.{Verdict}
 use Rattle.store_fields.specs.declared.edit.Verdict.TheVariants.{Done, Absent, Present, AtMax}
 use Rattle.std.proofs.lemmas.List.Edits.{length-remove, length-insert}
 use Rattle.std.proofs.lemmas.List.Elements.{All-append, All-cons, All-take, All-drop, All-set, All-get_or}
-use Rattle.store_fields.specs.Edits.{Edited, IsStore, keys, place_of, edited, made, put_at, removed, moved, inserted, field_set, edit, rows_after, verdicts_of}
+use Rattle.store_fields.specs.Edits.{Edited, IsStore, keys, place_of, edited, made, put_at, removed, moved, moved_from, inserted, field_set, edit, rows_after, verdicts_of}
 use Rattle.store_fields.specs.Table.{paired, IsPaired}
 
 prefix_len-map : {X Y : Type 0} (p : Y → Bool) (f : X → Y) (xs : List X) → prefix_len p (map f xs) ≡ prefix_len (λ x. p (f x)) xs
@@ -299,3 +300,57 @@ all_keep max width rows (op ∷ edits) kept = all_keep max width (edit max width
 pub edit_or_none_keeps : (max width : ℕ) (old new : List (Code × Row)) (op : EditOp) (r : Result Verdict NoMemory) → IfOk r (λ verdict. edited (values_of new) verdict ≡ edit max width (values_of old) op) → OnErr r (new ≡ old) → IsStore max width (values_of old) → IsStore max width (values_of new)
 edit_or_none_keeps max width old new op (Ok verdict) is _ kept = subst (IsStore max width) (sym (rows_of new verdict (edit max width (values_of old) op) is)) (edit_keeps max width (values_of old) op kept)
 edit_or_none_keeps max width old new op (Err _) _ same kept = subst (λ es. IsStore max width (values_of es)) (sym same) kept
+
+-- ---- a copy
+
+apart_at : (key : Code) (rows : List Row) (i : ℕ) (row : Row) → AllByRecursion (λ k. is_same key k ≡ false) (keys rows) → slice_get rows i ≡ Some row → is_same key row.key ≡ false
+apart_at key [] i row all is = cc
+apart_at key (r ∷ rows) zero row all is = ap (λ k. is_same key k) {x = row.key} {y = r.key} (cc) ∙ all.0
+apart_at key (r ∷ rows) (suc i) row all is = apart_at key rows i row all.1 is
+
+-- one more row of those with distinct keys goes last
+pub copied_more : (rows : List Row) (i : ℕ) (row : Row) → IsDistinct is_same (keys rows) → slice_get rows i ≡ Some row → insert_entry ghosts.eq (map paired (take i rows)) row.key row ≡ map paired (take (suc i) rows)
+copied_more [] i row distinct is = cc
+copied_more (r ∷ rows) zero row distinct is = ap (λ x. paired x ∷ []) {x = row} {y = r} cc
+copied_more (r ∷ rows) (suc i) row distinct is =
+    let apart : ghosts.eq row.key r.key ≡ false =
+    eq_is_same row.key r.key ∙ apart_flips r.key row.key (apart_at r.key rows i row (IsDistinct-head is_same r.key (keys rows) distinct) is) in
+    ap (λ b. if b then (r.key, row) ∷ map paired (take i rows) else paired r ∷ insert_entry ghosts.eq (map paired (take i rows)) row.key row) apart
+    ∙ ap (λ l. paired r ∷ l) (copied_more rows i row (IsDistinct-tail is_same r.key (keys rows) distinct) is)
+
+-- ---- an edit that is not made
+
+refused_insert : (max : ℕ) (rows : List Row) (row : Row) (place : ℕ) → ((inserted max rows row place).verdict ≡ Done → ⊥) → (inserted max rows row place).rows ≡ rows
+refused_insert max rows row place = by (place_of row.key rows) (nat_le max (length rows))
+  where
+    by : (o : Option ℕ) (b : Bool) → ((option_map_or (λ _. edited rows Present) o (if b then edited rows AtMax else made (put_at rows place row))).verdict ≡ Done → ⊥) → (option_map_or (λ _. edited rows Present) o (if b then edited rows AtMax else made (put_at rows place row))).rows ≡ rows
+    by (Some i) b h = refl
+    by None true h = refl
+    by None false h = absurd (h refl)
+
+refused_removal : (rows : List Row) (key : Code) → ((removed rows key).verdict ≡ Done → ⊥) → (removed rows key).rows ≡ rows
+refused_removal rows key = by (place_of key rows)
+  where
+    by : (o : Option ℕ) → ((option_map_or (λ i. made (remove rows i)) o (edited rows Absent)).verdict ≡ Done → ⊥) → (option_map_or (λ i. made (remove rows i)) o (edited rows Absent)).rows ≡ rows
+    by None h = refl
+    by (Some i) h = absurd (h refl)
+
+refused_move : (rows : List Row) (key : Code) (place : ℕ) → ((moved rows key place).verdict ≡ Done → ⊥) → (moved rows key place).rows ≡ rows
+refused_move rows key place = by (place_of key rows)
+  where
+    at : (i : ℕ) (o : Option Row) → ((option_map_or (λ row. made (put_at (remove rows i) place row)) o (edited rows Absent)).verdict ≡ Done → ⊥) → (option_map_or (λ row. made (put_at (remove rows i) place row)) o (edited rows Absent)).rows ≡ rows
+    at i None h = refl
+    at i (Some row) h = absurd (h refl)
+
+    by : (o : Option ℕ) → ((option_map_or (λ i. moved_from rows i place) o (edited rows Absent)).verdict ≡ Done → ⊥) → (option_map_or (λ i. moved_from rows i place) o (edited rows Absent)).rows ≡ rows
+    by None h = refl
+    by (Some i) h = at i (slice_get rows i) h
+
+pub refused_stays : (max width : ℕ) (rows : List Row) (op : EditOp) → ((edit max width rows op).verdict ≡ Done → ⊥) → (edit max width rows op).rows ≡ rows
+refused_stays max width rows (ops.Insert key fields place) = by (length fields == width)
+  where
+    by : (b : Bool) → ((if b then inserted max rows (record { key = key; fields = fields }) place else edited rows Absent).verdict ≡ Done → ⊥) → (if b then inserted max rows (record { key = key; fields = fields }) place else edited rows Absent).rows ≡ rows
+    by true h = refused_insert max rows (record { key = key; fields = fields }) place h
+    by false h = refl
+refused_stays max width rows (ops.Remove key) = refused_removal rows key
+refused_stays max width rows (ops.Move key place) = refused_move rows key place

@@ -2,6 +2,7 @@
 #![tactic(auto)]
 
 mod edit;
+pub mod laws;
 mod row;
 mod rows;
 mod table;
@@ -9,3 +10,6 @@ mod table;
 pub use edit::{Edit, EditOp, Verdict, Verdicts};
 pub use row::Row;
 pub use rows::Rows;
+
+#[cfg(test)]
+mod tests;

@@ -48,6 +48,17 @@ impl Rows {
         })
     }
 
+    /// The same rows, in memory of their own.
+    pub fn copy(&self, alloc: Global) -> Result<Rows, NoMemory>
+        ensures { IfOk result (λ rows. rows ≡ self.now) }
+    {
+        Ok(Rows {
+            rows: table::copy(alloc, &self.rows)?,
+            max: self.max,
+            width: self.width,
+        })
+    }
+
     /// Puts a new row at a place. `Present` where its key is there, else `AtMax` where as many rows are there
     /// as may be; neither changes a row. The others keep their order.
     pub fn insert(&mut self, row: Row, place: u32) -> Result<Verdict, NoMemory>

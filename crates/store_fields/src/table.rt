@@ -9,10 +9,24 @@ ghost use Rattle.store_fields.specs.Table.{IsPaired};
 use crate::edit::{EditOp, Verdict};
 use crate::row::Row;
 use indexmap::IndexMap;
+use std::alloc::Global;
 use values::{Code, NoMemory};
 
 /// Each row at its key, in the store's order.
 pub(crate) type Table = IndexMap<Code, Row>;
+
+/// The same rows in the same order, in memory of their own.
+pub(crate) fn copy(alloc: Global, table: &Table) -> Result<Table, NoMemory>
+    requires { IsPaired table.now.entries }
+    ensures { IfOk result (λ copied. copied.entries ≡ table.now.entries) }
+{
+    let mut copied = IndexMap::with_capacity(alloc, table.len())?;
+    for i in 0..table.len() {
+        let row = &table[i];
+        copied.insert(row.key, row.copy(alloc)?)?;
+    }
+    Ok(copied)
+}
 
 /// The place of the row with the key.
 pub(crate) fn find(table: &Table, key: Code) -> Option<usize>
