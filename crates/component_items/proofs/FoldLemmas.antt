@@ -80,3 +80,9 @@ at-Cleanup step text x = ap (λ f. f x) (fold-Cleanup step text)
 
 pub at-Effect : {X Y : Type 0} (step : Item-F (X → Y) → X → Y) (id name : ℕ) (expr : Expr) (x : X) → fold-Item (X → Y) step (Effect id name expr) x ≡ step (level.Effect id name expr) x
 at-Effect step id name expr x = ap (λ f. f x) (fold-Effect step id name expr)
+
+pub at-Load : {X Y : Type 0} (step : Item-F (X → Y) → X → Y) (id name resource : ℕ) (key : Expr) (x : X) → fold-Item (X → Y) step (Load id name resource key) x ≡ step (level.Load id name resource key) x
+at-Load {X} {Y} step id name resource key x = ap (λ (f : X → Y). f x) (fold-Load step id name resource key)
+
+pub at-Resource : {X Y : Type 0} (step : Item-F (X → Y) → X → Y) (id name after : ℕ) (keys values : List Code) (x : X) → fold-Item (X → Y) step (Resource id name after keys values) x ≡ step (level.Resource id name after keys values) x
+at-Resource {X} {Y} step id name after keys values x = ap (λ (f : X → Y). f x) (fold-Resource step id name after keys values)

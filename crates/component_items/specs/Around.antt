@@ -4,11 +4,11 @@ use Rattle.std.specs.List.{find}
 use Rattle.std.specs.Option.{option_map}
 use Rattle.component_items.specs.declared.component.Attr.{Attr}
 use Rattle.component_items.specs.declared.component.Attr.TheVariants as attr
-use Rattle.component_items.specs.declared.component.Component.{Component}
 use Rattle.component_items.specs.declared.component.Item.{Item}
 use Rattle.component_items.specs.declared.component.Item.TheOpen as level
 use Rattle.component_items.specs.declared.component.Item.TheOpen.{Item-F}
 use Rattle.component_items.specs.declared.component.Item.TheFolds.{fold-Item}
+use Rattle.component_items.specs.Parts.{Parts}
 
 -- the innermost area around a place, as an owner, and the names of all areas around it, the outermost first
 pub record Around : Type 0 where
@@ -80,8 +80,8 @@ abbrev pub find_id : ℕ → List Item → Around → Option Listed
 find_id id items around = find (λ l. l.id == id) (items_listed items around)
 
 -- the owner of an id, and its path
-abbrev pub owner_of_id : Component → ℕ → Option ℕ
+abbrev pub owner_of_id : Parts → ℕ → Option ℕ
 owner_of_id component id = option_map (λ l. l.owner) (find_id id component.items top)
 
-abbrev pub path_of_id : Component → ℕ → Option (List ℕ)
+abbrev pub path_of_id : Parts → ℕ → Option (List ℕ)
 path_of_id component id = option_map (λ l. l.path) (find_id id component.items top)

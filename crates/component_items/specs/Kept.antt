@@ -1,5 +1,5 @@
 -- What holds of each component that a text means. Each fact can be tried by itself.
-use Rattle.std.specs.Prelude.{◌≡◌, ℕ, ◌+◌, ◌≤◌, ◌==◌, ◌&&◌, ◌||◌, not, nat_le, nat_lt, if◌then◌else◌, Bool, true, false, length, List, [], ◌∷◌, ◌++◌, Option, Some, None}
+use Rattle.std.specs.Prelude.{◌≡◌, ℕ, ◌+◌, ◌^◌, ◌≤◌, ◌<◌, ◌==◌, ◌&&◌, ◌||◌, not, nat_le, nat_lt, if◌then◌else◌, Bool, true, false, length, List, [], ◌∷◌, ◌++◌, Option, Some, None}
 use Rattle.std.specs.List.{list_all, list_any}
 use Rattle.values.specs.declared.code.Code.{Code}
 use Rattle.values.specs.declared.code.Code.TheVariants as code
@@ -8,15 +8,16 @@ use Rattle.values.specs.declared.expr.Expr.TheOpen as form
 use Rattle.values.specs.declared.expr.Expr.TheOpen.{Expr-F}
 use Rattle.values.specs.declared.expr.Expr.TheFolds.{fold-Expr}
 use Rattle.values.specs.Evaluation.{is_same}
+use Rattle.values.specs.declared.limits.TheConstants.{MOST_NODES, MOST_OWNERS, MOST_ROWS}
 use Rattle.values.specs.Plan.{rows_in}
 use Rattle.component_items.specs.declared.component.Attr.{Attr}
 use Rattle.component_items.specs.declared.component.Attr.TheVariants as attr
-use Rattle.component_items.specs.declared.component.Component.{Component}
 use Rattle.component_items.specs.declared.component.Item.{Item}
 use Rattle.component_items.specs.declared.component.Item.TheOpen as level
 use Rattle.component_items.specs.declared.component.Item.TheOpen.{Item-F}
 use Rattle.component_items.specs.declared.component.Item.TheFolds.{fold-Item}
-use Rattle.component_items.specs.Ids.{IsNumbered, owners_in}
+use Rattle.component_items.specs.Ids.{IsNumbered, ids_in, owners_in}
+use Rattle.component_items.specs.Parts.{Parts}
 use Rattle.component_items.specs.Counts.{nodes_of}
 
 -- ---- items stand where they may
@@ -245,7 +246,7 @@ are_distinct (key ∷ keys) = not (list_any (is_same key) keys) && are_distinct 
 -- a store has no more rows than any store may have
 abbrev pub shape_step : Item-F Bool → Bool
 shape_step (level.Resource id name after keys values) = length keys == length values && are_distinct keys
-shape_step (level.Store id name max fields starts) = length fields == length starts && nat_le max 4096
+shape_step (level.Store id name max fields starts) = length fields == length starts && nat_le max MOST_ROWS
 shape_step (level.Area id name owner items) = all_true items
 shape_step (level.If id cond items) = all_true items
 shape_step (level.Each id store items) = all_true items
@@ -258,11 +259,13 @@ item_has_shape = fold-Item Bool shape_step
 -- ---- all of it
 
 -- what a component keeps
-pub record IsKept (component : Component) : Type 0 where
+pub record IsKept (component : Parts) : Type 0 where
   pub numbered : IsNumbered component.items
   pub stand : list_all (λ item. item_stands item standing_at_top) component.items ≡ true
   pub see : items_see component.items nothing_seen ≡ true
   pub texts : list_all (item_has_texts (length component.texts)) component.items ≡ true
   pub shaped : list_all item_has_shape component.items ≡ true
-  pub few_nodes : nodes_of component.items ≤ 4096
-  pub few_owners : length (owners_in component.items) ≤ 1023
+  pub few_nodes : nodes_of component.items ≤ MOST_NODES
+  -- the top is one more
+  pub few_owners : length (owners_in component.items) < MOST_OWNERS
+  pub few_ids : length (ids_in component.items) < 2 ^ 31

@@ -15,7 +15,7 @@ impl Component {
     pub fn owner_of(&self, id: u32) -> Option<u32>
         ensures { result ≡ owner_of_id self.now id }
     {
-        owner_among(self.items.as_slice(), id, 0)
+        owner_among(self.items(), id, 0)
     }
 
     /// The path by which the id is named: the names of the areas around it, the outermost first, and then the
@@ -25,7 +25,7 @@ impl Component {
         ensures { IfOk result (λ path. path ≡ path_of_id self.now id) }
     {
         let mut path = Vec::new(alloc);
-        if path_among(self.items.as_slice(), id, &mut path)? {
+        if path_among(self.items(), id, &mut path)? {
             return Ok(Some(Numbers::from_vec(path)));
         }
         Ok(None)

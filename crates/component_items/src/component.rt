@@ -1,7 +1,12 @@
 //! What a component text means.
+ghost use Rattle.std.specs.Prelude.{◌≡◌, ◌↔◌, Some, None, IfOk, OnErr, length};
+ghost use Rattle.values.specs.Texts.{index_of, with_text};
+ghost use Rattle.values.specs.declared.limits.TheConstants.{MOST_TEXTS};
+ghost use Rattle.component_items.specs.Kept.{IsKept};
 
 use sqlite_items as items;
-use values::{Code, Codes, Expr, Numbers, Sequence, Texts};
+use std::marker::Model;
+use values::{Code, Codes, Expr, Numbers, Sequence, TextRefusal, Texts};
 
 /// An attribute of a tag. Names and texts are indices in the component's table of texts.
 #[derive(Debug, Drop)]
@@ -108,9 +113,62 @@ pub enum Item {
     },
 }
 
-/// A component: its table of texts and its items.
+/// A component: its table of texts and its items, with what each component keeps
+/// (`docs/SEMANTICS.md`, "Components"). Contracts see the bytes of its texts and its items.
 #[derive(Drop)]
 pub struct Component {
-    pub texts: Texts,
-    pub items: Items,
+    texts: Texts,
+    items: Items,
+}
+
+impl Model for Component {
+    ghost use Rattle.component_items.specs.contracts.component.Item as item;
+    ghost use Rattle.component_items.specs.Kept.{IsKept};
+    ghost use Rattle.component_items.specs.Parts.{Parts};
+    ghost use Rattle.std.specs.Coded.{codes};
+
+    ghost Value = { Parts };
+
+    ghost coded = { Prim.hlevel (codes, item.the_row.coded) };
+
+    ghost view = { λ c. record { texts = c.texts; items = c.items } };
+
+    ghost invariant = { λ c. IsKept (record { texts = c.texts; items = c.items }) };
+}
+
+impl Component {
+    /// The component of these texts and items.
+    pub fn new(texts: Texts, items: Items) -> Component
+        requires { IsKept (record { texts = texts; items = items }) }
+        ensures { result ≡ record { texts = texts; items = items } }
+    {
+        Component { texts, items }
+    }
+
+    /// The items at the top, and what the component keeps.
+    pub fn items(&self) -> &[Item]
+        ensures items { result.now ≡ self.now.items }
+        ensures kept { IsKept self.now }
+    {
+        self.items.as_slice()
+    }
+
+    /// The table of texts.
+    pub fn texts(&self) -> &Texts
+        ensures { result.now ≡ self.now.texts }
+    {
+        &self.texts
+    }
+
+    /// The number of the text, which is added at the end where the table does not hold it yet: a script
+    /// has its texts in the table of its component.
+    pub fn add_text(&mut self, text: &str) -> Result<u32, TextRefusal>
+        ensures table { IfOk result (λ index. self.new ≡ record self.old { texts = with_text text.now self.old.texts }) }
+        ensures index { IfOk result (λ index. index_of text.now self.new.texts ≡ Some index) }
+        ensures full { (result ≡ Err TextRefusal.Full)
+            ↔ ((index_of text.now self.old.texts ≡ None) × (length self.old.texts ≡ MOST_TEXTS)) }
+        ensures unchanged { OnErr result (self.new ≡ self.old) }
+    {
+        self.texts.add(text)
+    }
 }

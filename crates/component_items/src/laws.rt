@@ -1,5 +1,5 @@
 //! What follows from the definitions alone. Each is the contract of a function that does nothing.
-ghost use Rattle.std.specs.Prelude.{◌≡◌, ℕ, List, [], ◌∷◌, Bool, true, false, Some, None, Contains, ◌↔◌, map, pos};
+ghost use Rattle.std.specs.Prelude.{◌≡◌, ℕ, List, [], ◌∷◌, Bool, true, false, Some, None, Contains, ◌↔◌, length, map, pos};
 ghost use Rattle.values.specs.declared.code.Code.{Code as CodeValue};
 ghost use Rattle.values.specs.declared.expr.Expr.{Expr as ExprValue};
 ghost use Rattle.component_items.specs.declared.component.Component.{Component as ComponentValue};
@@ -7,7 +7,8 @@ ghost use Rattle.component_items.specs.declared.component.Item.{Item as ItemValu
 ghost use Rattle.component_items.specs.Around.{Around, items_listed, owner_of_id, path_of_id};
 ghost use Rattle.component_items.specs.Counts.{nodes_of};
 ghost use Rattle.component_items.specs.Ids.{ids_in, owners_in};
-ghost use Rattle.component_items.specs.Kept.{item_stands, standing_at_top, items_see, nothing_seen, are_distinct};
+ghost use Rattle.component_items.specs.Kept.{item_stands, standing_at_top, items_see, nothing_seen, are_distinct, IsKept};
+ghost use Rattle.component_items.specs.Worked.{items};
 
 use crate::component::{Attr, Item};
 use values::{Code, Expr};
@@ -21,6 +22,11 @@ pub fn each_id_is_listed()
 pub fn other_ids_have_no_owner()
     ensures owner { (component : ComponentValue) (id : ℕ) → (owner_of_id component id ≡ None) ↔ ¬ Contains (ids_in component.items) id }
     ensures path { (component : ComponentValue) (id : ℕ) → (path_of_id component id ≡ None) ↔ ¬ Contains (ids_in component.items) id }
+{}
+
+/// A worked component is kept, with any table that has its texts.
+pub fn worked_component_is_kept()
+    ensures { (texts : List (List ℕ)) → length texts ≡ 12 → IsKept (record { texts = texts; items = items }) }
 {}
 
 /// Worked rows of the definitions.

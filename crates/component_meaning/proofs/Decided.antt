@@ -5,6 +5,7 @@ use Rattle.grammar.specs.Running.{Outcome, read, refused, undecided}
 use Rattle.text_grammar.specs.declared.component.Rule.TheVariants as rule
 use Rattle.text_grammar.specs.declared.component.Terminal.TheVariants as terminal
 use Rattle.text_grammar.proofs.ComponentRight.{is_right, fits}
+use Rattle.values.specs.declared.limits.TheConstants.{MOST_NODES}
 use Rattle.component_items.specs.declared.component.Component.{Component}
 use Rattle.component_items.specs.declared.component.Item.{Item}
 use Rattle.component_items.specs.declared.refusal.Refusal.{Refusal}
@@ -36,7 +37,7 @@ pub never_both : (bytes : List ℕ) (component : Component) (why : Refusal) → 
 never_both bytes component why p (refused_text {why = e} bad) = once.never_both component_text decided bytes p.last e p.read bad
 never_both bytes component why p (too_large last reads many) =
     let ends = once.one_meaning component_text decided bytes p.last last p.read reads in
-    let few = subst (λ (items : List Item). nodes_of items ≤ 4096) (p.items ∙ ap (λ (e : State). e.items) ends) p.few_nodes in
+    let few = subst (λ (items : List Item). nodes_of items ≤ MOST_NODES) (p.items ∙ ap (λ (e : State). e.items) ends) p.few_nodes in
     absurd (omega arith)
 
 pub one_refusal : (bytes : List ℕ) (a b : Refusal) → IsNoComponent bytes a → IsNoComponent bytes b → a ≡ b
@@ -54,7 +55,7 @@ read_component bytes component (read a) is same = (a, computed.computed_read com
 read_component bytes component (refused why) is same = absurd cc
 read_component bytes component undecided is same = absurd cc
 
-pub computed_component : (bytes : List ℕ) (component : Component) → read_of bytes ≡ Some component → nodes_of component.items ≤ 4096 → IsComponent bytes component
+pub computed_component : (bytes : List ℕ) (component : Component) → read_of bytes ≡ Some component → nodes_of component.items ≤ MOST_NODES → IsComponent bytes component
 computed_component bytes component is few =
     let found = read_component bytes component (outcome component_text bytes) refl is in record {
       last = found.0;
@@ -72,18 +73,18 @@ read_refusal bytes why undecided is same = absurd cc
 pub computed_refusal : (bytes : List ℕ) (why : Refusal) → refusal_of bytes ≡ Some why → IsNoComponent bytes why
 computed_refusal bytes why is = refused_text (read_refusal bytes why (outcome component_text bytes) refl is)
 
-pub computed_nodes : (bytes : List ℕ) (component : Component) → read_of bytes ≡ Some component → 4096 < nodes_of component.items → IsNoComponent bytes (too_many_nodes bytes)
+pub computed_nodes : (bytes : List ℕ) (component : Component) → read_of bytes ≡ Some component → MOST_NODES < nodes_of component.items → IsNoComponent bytes (too_many_nodes bytes)
 computed_nodes bytes component is many =
     let found = read_component bytes component (outcome component_text bytes) refl is in
-    too_large found.0 found.1 (subst (λ (c : Component). 4096 < nodes_of c.items) (sym found.2) many)
+    too_large found.0 found.1 (subst (λ (c : Component). MOST_NODES < nodes_of c.items) (sym found.2) many)
 
 -- ---- the same for worked rows
 
 pub refused_row : {bytes : List ℕ} {why : Refusal} → refusal_of bytes ≡ Some why → IsNoComponent bytes why
 refused_row {bytes = bytes} {why = why} is = computed_refusal bytes why is
 
-pub component_row : {bytes : List ℕ} {component : Component} → read_of bytes ≡ Some component → nodes_of component.items ≤ 4096 → IsComponent bytes component
+pub component_row : {bytes : List ℕ} {component : Component} → read_of bytes ≡ Some component → nodes_of component.items ≤ MOST_NODES → IsComponent bytes component
 component_row {bytes = bytes} {component = component} is few = computed_component bytes component is few
 
-pub large_row : {bytes : List ℕ} {component : Component} → read_of bytes ≡ Some component → 4096 < nodes_of component.items → IsNoComponent bytes (too_many_nodes bytes)
+pub large_row : {bytes : List ℕ} {component : Component} → read_of bytes ≡ Some component → MOST_NODES < nodes_of component.items → IsNoComponent bytes (too_many_nodes bytes)
 large_row {bytes = bytes} {component = component} is many = computed_nodes bytes component is many

@@ -19,7 +19,7 @@ use Rattle.component_meaning.specs.Effects.{effect}
 use Rattle.component_meaning.specs.Actions.{whole, taken, known_as, with_item, with_numbered, closed, with_attr, perform}
 use Rattle.component_meaning.specs.Meaning.{semantics}
 use Rattle.component_meaning.proofs.KeptTokens.{accepted}
-use Rattle.component_meaning.proofs.KeptMore.{all_more}
+use Rattle.component_items.proofs.Longer.{all_more}
 use Rattle.component_meaning.proofs.KeptNames.{falls, falls_more}
 
 pub record AreFalling (bound : ℕ) (seen : List Declared) (opened : List Open) : Type 0 where
@@ -92,7 +92,9 @@ perform_falls action.BeginEntries a h = h
 perform_falls action.AddValue a h = h
 perform_falls action.MakeResource a h = named_falls (λ id. item.Resource id a.name a.number a.keys a.values) 1 resource_name a h (omega arith)
 perform_falls action.MakeLoad a h = named_falls (λ id. item.Load id a.name (id_of a.used) (whole a)) 2 load_name (taken a) h (omega arith)
-perform_falls action.MakeStore a h = named_falls (λ id. item.Store id a.name a.number a.fields a.values) (2 + length a.fields) (store_name a.fields) a h (omega arith)
+perform_falls action.MakeStore a h =
+    numbered_falls (λ id. item.Store id a.name a.number a.fields a.values) (2 + length a.fields) (record (known_as (store_name a.fields) a) { fields = [] })
+    (declared_more a.next_id (a.next_id + (2 + length a.fields)) a.name (store_name a.fields) a.seen a.opened (omega arith) h)
 perform_falls action.MakeCleanup a h = item_falls (item.Cleanup a.written) a a.opened h
 perform_falls action.MakeText a h = item_falls (item.Text a.written) a a.opened h
 perform_falls action.MakeShown a h = numbered_falls (λ id. item.Shown id (whole a)) 1 (taken a) (more a.next_id (a.next_id + 1) a.seen a.opened (omega arith) h)

@@ -1,6 +1,7 @@
 -- There are few owners: an area is only named where there is room for one more.
 use Rattle.std.proofs.Common.{◌≡◌, ℕ, ◌+◌, ◌<◌, ◌≤◌, true, List, [], ◌∷◌, length, Some, None, Option, refl, ap, subst, ◌∙◌, arith, length-append, leb-false}
 use Rattle.std.proofs.lemmas.List.FromFn.{length-range_with_len}
+use Rattle.values.specs.declared.limits.TheConstants.{MOST_OWNERS}
 use Rattle.grammar.proofs.Keeping.{kept}
 use Rattle.grammar.specs.Table.{production_at}
 use Rattle.text_lexer.specs.declared.token.Token.{Token}
@@ -69,7 +70,7 @@ owner_after action.BeginEntries a = omega arith
 owner_after action.AddValue a = omega arith
 owner_after action.MakeResource a = numbered_owner (λ id. item.Resource id a.name a.number a.keys a.values) 1 (known_as resource_name a) ∙ omega arith
 owner_after action.MakeLoad a = numbered_owner (λ id. item.Load id a.name (id_of a.used) (whole a)) 2 (known_as load_name (taken a)) ∙ omega arith
-owner_after action.MakeStore a = numbered_owner (λ id. item.Store id a.name a.number a.fields a.values) (2 + length a.fields) (known_as (store_name a.fields) a) ∙ omega arith
+owner_after action.MakeStore a = numbered_owner (λ id. item.Store id a.name a.number a.fields a.values) (2 + length a.fields) (record (known_as (store_name a.fields) a) { fields = [] }) ∙ omega arith
 owner_after action.MakeCleanup a = kept_owner (item.Cleanup a.written) a a.opened ∙ omega arith
 owner_after action.MakeText a = kept_owner (item.Text a.written) a a.opened ∙ omega arith
 owner_after action.MakeShown a = numbered_owner (λ id. item.Shown id (whole a)) 1 (taken a) ∙ omega arith
@@ -124,10 +125,10 @@ tests rule.Component = refl
 tests _ = refl
 
 abbrev Holds : Room → State → Option Lexed → Type 0
-Holds unknown a known = a.next_owner ≤ 1024
-Holds has_room a known = a.next_owner < 1024
+Holds unknown a known = a.next_owner ≤ MOST_OWNERS
+Holds has_room a known = a.next_owner < MOST_OWNERS
 
-weaker : (r : Room) (a : State) (known : Option Lexed) → Holds r a known → a.next_owner ≤ 1024
+weaker : (r : Room) (a : State) (known : Option Lexed) → Holds r a known → a.next_owner ≤ MOST_OWNERS
 weaker unknown a known h = h
 weaker has_room a known h = omega arith
 
@@ -138,7 +139,7 @@ same_room has_room after a b known next goes is h = let e : has_room ≡ after =
 terminals : (bytes : List ℕ) (w : Terminal) (now after : Room) (a : State) (x : Token) (next : Lexed) (known : Option Lexed) → term w now ≡ Some after
     → failed bytes w a x next ≡ None → Holds now a known → Holds after (effect bytes w a x) (Some next)
 terminals bytes terminal.NewArea now after a x next known goes passed h =
-    let room : a.next_owner < 1024 = leb-false 1024 a.next_owner (passes bytes terminal.NewArea a x next too_many_owners 7 passed refl) in
+    let room : a.next_owner < MOST_OWNERS = leb-false MOST_OWNERS a.next_owner (passes bytes terminal.NewArea a x next too_many_owners 7 passed refl) in
     let e : has_room ≡ after = cc in
     subst (λ r. Holds r (effect bytes terminal.NewArea a x) (Some next)) e room
 terminals bytes w now after a x next known goes passed h = same_room now after a (effect bytes w a x) known (Some next) goes refl h
@@ -159,13 +160,13 @@ is_walk bytes = record {
   actions = λ d now after a known goes p h. actions d now after a known goes h;
 }
 
-few : (a : State) → AreNumbered a → a.next_owner ≤ 1024 → length (owners_in a.items) ≤ 1023
+few : (a : State) → AreNumbered a → a.next_owner ≤ MOST_OWNERS → length (owners_in a.items) < MOST_OWNERS
 few a h room =
     let all_owners = ap length h.owners.listed ∙ length-range_with_len 1 h.owners.count in
     let parts = length-append (owners_in a.items) (numbers_inside item_owners frame_owners a.opened) in
     omega (arith, h.owners.comes_next, all_owners, parts)
 
-pub owners_are_few : (bytes : List ℕ) (component : Component) → IsComponent bytes component → length (owners_in component.items) ≤ 1023
+pub owners_are_few : (bytes : List ℕ) (component : Component) → IsComponent bytes component → length (owners_in component.items) < MOST_OWNERS
 owners_are_few bytes component is =
     let h = kept table (semantics bytes) AreNumbered (keeps bytes) is.read.means start_kept in
     let end = walked_to_the_end term act through bytes AreNumbered (keeps bytes) Holds (is_walk bytes) is.last is.read start_kept unknown unknown refl (omega arith) in

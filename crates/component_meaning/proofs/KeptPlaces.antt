@@ -299,7 +299,7 @@ actions action.MakeLoad to_declare after a known goes h =
     behind after (perform action.MakeLoad a) goes (numbered_stood (λ id. item.Load id a.name (id_of a.used) (whole a)) 2 (known_as load_name (taken a)) h.standing (load_stands _ _ _ _ _ h.allowed))
 actions action.MakeLoad _ after a known goes h = absurd cc
 actions action.MakeStore to_declare after a known goes h =
-    behind after (perform action.MakeStore a) goes (numbered_stood (λ id. item.Store id a.name a.number a.fields a.values) (2 + length a.fields) (known_as (store_name a.fields) a) h.standing (store_stands _ _ _ _ _ _ h.allowed))
+    behind after (perform action.MakeStore a) goes (numbered_stood (λ id. item.Store id a.name a.number a.fields a.values) (2 + length a.fields) (record (known_as (store_name a.fields) a) { fields = [] }) h.standing (store_stands _ _ _ _ _ _ h.allowed))
 actions action.MakeStore _ after a known goes h = absurd cc
 actions action.MakeCleanup to_have_cleanup after a known goes h = behind after (perform action.MakeCleanup a) goes (item_stood (item.Cleanup a.written) a a.opened h.standing (cleanup_stands _ _ h.allowed))
 actions action.MakeCleanup _ after a known goes h = absurd cc

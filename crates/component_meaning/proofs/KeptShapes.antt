@@ -9,6 +9,7 @@ use Rattle.values.specs.declared.code.Code.TheVariants.{Empty, Word}
 use Rattle.values.specs.declared.expr.Expr.{Expr}
 use Rattle.values.specs.Evaluation.{is_same}
 use Rattle.values.specs.Texts.{index_of}
+use Rattle.values.specs.declared.limits.TheConstants.{MOST_ROWS}
 use Rattle.text_lexer.specs.declared.token.Token.{Token}
 use Rattle.text_lexer.specs.Tokens.{Lexed}
 use Rattle.text_grammar.specs.Class.{is_number}
@@ -71,7 +72,7 @@ resource_shape : (id name after : ℕ) (keys values : List Code) → length keys
 unfolding item_has_shape
 resource_shape id name after keys values even distinct = folds.fold-Resource shape_step id name after keys values ∙ and_both _ _ (eq-eqb (length keys) (length values) even) distinct
 
-store_shape : (id name max : ℕ) (fields : List ℕ) (starts : List Code) → length fields ≡ length starts → nat_le max 4096 ≡ true → item_has_shape (item.Store id name max fields starts) ≡ true
+store_shape : (id name max : ℕ) (fields : List ℕ) (starts : List Code) → length fields ≡ length starts → nat_le max MOST_ROWS ≡ true → item_has_shape (item.Store id name max fields starts) ≡ true
 unfolding item_has_shape
 store_shape id name max fields starts even few = folds.fold-Store shape_step id name max fields starts ∙ and_both _ _ (eq-eqb (length fields) (length starts) even) few
 
@@ -222,7 +223,7 @@ tests _ = refl
 
 -- so many fields or keys have no value yet
 record IsStore (number : ℕ) (fields : List ℕ) (values : List Code) (ahead : ℕ) : Type 0 where
-  few : nat_le number 4096 ≡ true
+  few : nat_le number MOST_ROWS ≡ true
   even : length fields ≡ ahead + length values
 
 record IsResource (keys values : List Code) (ahead : ℕ) : Type 0 where
@@ -237,7 +238,7 @@ IsNewNegated bytes keys (Some (Err bad)) = Unit {0}
 
 abbrev Means : List ℕ → Entries → ℕ → List ℕ → List Code → List Code → Option Lexed → Type 0
 Means bytes nothing number fields keys values known = Unit {0}
-Means bytes few_rows number fields keys values known = nat_le number 4096 ≡ true
+Means bytes few_rows number fields keys values known = nat_le number MOST_ROWS ≡ true
 Means bytes even_fields number fields keys values known = IsStore number fields values 0
 Means bytes new_field number fields keys values known = IsStore number fields values 1
 Means bytes even_keys number fields keys values known = IsResource keys values 0
@@ -308,8 +309,8 @@ negated_added bytes keys x (Some y) first new number within =
 new_text : (bytes : List ℕ) (a : State) → AreInTable a → has_text_key (index_of bytes a.texts) a ≡ false → list_any (is_same (Word (number_with bytes a.texts))) a.keys ≡ false
 new_text bytes a table new = new_text_key bytes a.texts a.keys table.reading.keys_have (λ n is. subst (λ (o : Option ℕ). has_text_key o a ≡ false) is new)
 
-few_from : (number : ℕ) → nat_lt 4096 number ≡ false → nat_le number 4096 ≡ true
-few_from number h = le-leb number 4096 (ltb-false 4096 number h)
+few_from : (number : ℕ) → nat_lt MOST_ROWS number ≡ false → nat_le number MOST_ROWS ≡ true
+few_from number h = le-leb number MOST_ROWS (ltb-false MOST_ROWS number h)
 
 -- what the lexer gave comes next, where a key's `-` passed its check
 new_negated : (bytes : List ℕ) (a : State) (x : Token) (next : Lexed) → failed bytes terminal.KeyMinus a x next ≡ None → IsNewNegated bytes a.keys (Some next)
@@ -373,7 +374,7 @@ actions bytes action.MakeLoad now after a known goes h =
 actions bytes action.MakeStore even_fields after a known goes h =
     let even : length a.fields ≡ length a.values = omega (arith, h.means.even) in
     nothing_known bytes nothing after (perform action.MakeStore a) known goes
-    (numbered_shaped (λ id. item.Store id a.name a.number a.fields a.values) (2 + length a.fields) (known_as (store_name a.fields) a) h.shaped (store_shape _ _ _ _ _ even h.means.few))
+    (numbered_shaped (λ id. item.Store id a.name a.number a.fields a.values) (2 + length a.fields) (record (known_as (store_name a.fields) a) { fields = [] }) h.shaped (store_shape _ _ _ _ _ even h.means.few))
 actions bytes action.MakeStore _ after a known goes h = absurd cc
 actions bytes action.MakeCleanup now after a known goes h = nothing_known bytes now after (perform action.MakeCleanup a) known goes (item_shaped (item.Cleanup a.written) a a.opened h.shaped (cleanup_shape _))
 actions bytes action.MakeText now after a known goes h = nothing_known bytes now after (perform action.MakeText a) known goes (item_shaped (item.Text a.written) a a.opened h.shaped (text_shape _))

@@ -33,7 +33,8 @@ use Rattle.component_meaning.specs.Actions.{rest, top_operand, whole, taken, wit
 use Rattle.component_meaning.specs.Meaning.{semantics}
 use Rattle.component_meaning.specs.Component.{IsComponent}
 use Rattle.component_meaning.proofs.KeptTokens.{accepted}
-use Rattle.component_meaning.proofs.KeptMore.{frame_has_texts, open_has_texts, all_more, text_more, code_more, expr_more, items_more, open_more, table_grows, number_below}
+use Rattle.component_items.proofs.Longer.{all_more, text_more, code_more, expr_more, items_more, table_grows}
+use Rattle.component_meaning.proofs.KeptMore.{frame_has_texts, open_has_texts, open_more, number_below}
 
 -- ---- expressions
 
@@ -303,7 +304,8 @@ perform_kept action.MakeLoad a h =
     numbered_kept (λ id. item.Load id a.name (id_of a.used) (whole a)) 2 (known_as load_name (taken a)) (record { made = t.made; reading = t.reading })
     (load_has _ _ _ _ _ h.reading.named (whole_has a h))
 perform_kept action.MakeStore a h =
-    numbered_kept (λ id. item.Store id a.name a.number a.fields a.values) (2 + length a.fields) (known_as (store_name a.fields) a) (record { made = h.made; reading = h.reading })
+    numbered_kept (λ id. item.Store id a.name a.number a.fields a.values) (2 + length a.fields) (record (known_as (store_name a.fields) a) { fields = [] })
+    (record { made = h.made; reading = reads h.reading _ _ _ _ _ _ _ h.reading.named h.reading.wrote refl h.reading.keys_have h.reading.values_have h.reading.literal_has h.reading.operands_have })
     (store_has _ _ _ _ _ _ h.reading.named h.reading.fields_have h.reading.values_have)
 perform_kept action.MakeCleanup a h = item_kept (item.Cleanup a.written) a h (cleanup_has _ _ h.reading.wrote)
 perform_kept action.MakeText a h = item_kept (item.Text a.written) a h (text_has _ _ h.reading.wrote)

@@ -396,7 +396,7 @@ actions action.MakeLoad (at uses_resource (suc (suc n))) after a known goes h = 
 actions action.MakeLoad (at _ n) after a known goes h = absurd cc
 actions action.MakeStore (at in_no_element zero) after a known goes h =
     behind after (perform action.MakeStore a) known goes
-    (numbered_seen (λ id. item.Store id a.name a.number a.fields a.values) (2 + length a.fields) (known_as (store_name a.fields) a) a.seen _ h.sees (store_sees _ _ _ _ _ _) refl (may_add _ a.opened h.means))
+    (numbered_seen (λ id. item.Store id a.name a.number a.fields a.values) (2 + length a.fields) (record (known_as (store_name a.fields) a) { fields = [] }) a.seen _ h.sees (store_sees _ _ _ _ _ _) refl (may_add _ a.opened h.means))
 actions action.MakeStore (at in_no_element (suc n)) after a known goes h = absurd cc
 actions action.MakeStore (at _ n) after a known goes h = absurd cc
 actions action.MakeCleanup (at f n) after a known goes h =

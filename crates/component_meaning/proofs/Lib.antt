@@ -16,4 +16,6 @@ pub mod KeptSight
 pub mod KeptFalling
 pub mod KeptSeen
 pub mod KeptUses
+pub mod Bounded
+pub mod KeptFew
 pub mod KeptAll

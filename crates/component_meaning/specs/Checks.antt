@@ -4,6 +4,7 @@ use Rattle.std.specs.List.{list_any}
 use Rattle.values.specs.declared.code.Code.{Code}
 use Rattle.values.specs.declared.code.Code.TheVariants.{Empty, Word}
 use Rattle.values.specs.Evaluation.{is_same}
+use Rattle.values.specs.declared.limits.TheConstants.{MOST_OPEN, MOST_EXPRESSION_TOKENS, MOST_ROWS, MOST_OWNERS}
 use Rattle.values.specs.Texts.{index_of}
 use Rattle.text_lexer.specs.declared.token.Token.{Token}
 use Rattle.text_lexer.specs.Tokens.{Lexed}
@@ -88,9 +89,9 @@ opens terminal.Less = true
 opens terminal.OpenBlock = true
 opens _ = false
 
--- the 33rd open block or element, and the 257th token of an expression
+-- one open block or element too many, and one token of an expression too many
 abbrev pub fails_deep : Terminal → State → Bool
-fails_deep t a = (opens t && nat_le 32 (length a.opened)) || (is_in_expression t && nat_le 256 a.tokens)
+fails_deep t a = (opens t && nat_le MOST_OPEN (length a.opened)) || (is_in_expression t && nat_le MOST_EXPRESSION_TOKENS a.tokens)
 
 -- ---- NumberRange
 
@@ -163,11 +164,11 @@ fails_taken text t a x next = is_attribute_name t && ends_name text t next && ha
 -- ---- TooLarge
 
 abbrev pub fails_rows : List ℕ → Terminal → Token → Bool
-fails_rows text terminal.MaxNumber x = nat_lt 4096 (value_in text x)
+fails_rows text terminal.MaxNumber x = nat_lt MOST_ROWS (value_in text x)
 fails_rows text _ x = false
 
 abbrev pub fails_owners : Terminal → State → Bool
-fails_owners terminal.NewArea a = nat_le 1024 a.next_owner
+fails_owners terminal.NewArea a = nat_le MOST_OWNERS a.next_owner
 fails_owners _ a = false
 
 -- the text that the token brings, if it brings one

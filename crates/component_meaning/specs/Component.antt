@@ -1,5 +1,6 @@
 -- Which bytes are the text of which component, and why the others are of none.
 use Rattle.std.specs.Prelude.{◌≡◌, ℕ, ◌≤◌, ◌<◌, List, length}
+use Rattle.values.specs.declared.limits.TheConstants.{MOST_NODES}
 use Rattle.text_lexer.specs.Place.{line_at, column_at}
 use Rattle.text_grammar.specs.declared.component.Action.{Action}
 use Rattle.text_grammar.specs.declared.component.Rule.{Rule}
@@ -27,7 +28,7 @@ pub record IsComponent (bytes : List ℕ) (component : Component) : Type 0 where
   pub read : IsReadTo component_text bytes last
   pub texts : component.texts ≡ last.texts
   pub items : component.items ≡ last.items
-  pub few_nodes : nodes_of component.items ≤ 4096
+  pub few_nodes : nodes_of component.items ≤ MOST_NODES
 
 -- too many nodes are refused at the end of the bytes
 abbrev pub too_many_nodes : List ℕ → Refusal
@@ -37,4 +38,4 @@ too_many_nodes bytes = Bad (TooLarge Nodes) (record { line = line_at 1 bytes (le
 -- of all checks, their items lay out too many nodes.
 pub data IsNoComponent (bytes : List ℕ) : Refusal → Type 0 where
   refused_text : {why : Refusal} → IsRefused component_text bytes why → IsNoComponent bytes why
-  too_large : (last : State) → IsReadTo component_text bytes last → 4096 < nodes_of last.items → IsNoComponent bytes (too_many_nodes bytes)
+  too_large : (last : State) → IsReadTo component_text bytes last → MOST_NODES < nodes_of last.items → IsNoComponent bytes (too_many_nodes bytes)

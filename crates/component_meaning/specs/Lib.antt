@@ -1,4 +1,5 @@
 pub mod State
+pub mod Size
 pub mod Names
 pub mod Checks
 pub mod Effects

@@ -5,6 +5,7 @@ use Rattle.std.specs.Option.{option_map, option_and_then}
 use Rattle.std.specs.Str.{bytes_eq}
 use Rattle.values.specs.declared.code.Code.{Code}
 use Rattle.values.specs.declared.code.Code.TheVariants.{Number}
+use Rattle.values.specs.declared.limits.TheConstants.{GREATEST_NUMBER, GREATEST_NEGATED, MOST_TEXTS}
 use Rattle.values.specs.Texts.{index_of, with_text}
 use Rattle.text_lexer.specs.declared.token.Token.{Token}
 use Rattle.text_lexer.specs.Token.{decimal_value, content_of}
@@ -42,10 +43,10 @@ negated_in text x = Number (pos 0 -ℤ pos (value_in text x))
 
 -- the greatest number, and the greatest behind a `-`
 abbrev pub greatest : ℕ
-greatest = 2147483647
+greatest = GREATEST_NUMBER
 
 abbrev pub greatest_negated : ℕ
-greatest_negated = 2147483648
+greatest_negated = GREATEST_NEGATED
 
 -- ---- names of declarations
 
@@ -192,7 +193,7 @@ is_raw_tag bytes = bytes_eq bytes (codes "script") || bytes_eq bytes (codes "sty
 
 -- it has no room for this one
 abbrev pub is_full : List ℕ → List (List ℕ) → Bool
-is_full text texts = is_none (index_of text texts) && length texts == 65536
+is_full text texts = is_none (index_of text texts) && length texts == MOST_TEXTS
 
 -- the table with the text in it, and the number of the text there
 abbrev pub number_with : List ℕ → List (List ℕ) → ℕ

@@ -1,9 +1,10 @@
 //! What each component that a text means keeps: it follows from what each token and each action does.
 
-ghost use Rattle.std.specs.Prelude.{◌≡◌, ℕ, ◌≤◌, true, length, List};
+ghost use Rattle.std.specs.Prelude.{◌≡◌, ℕ, ◌+◌, ◌^◌, ◌≤◌, ◌<◌, true, length, List};
 ghost use Rattle.std.specs.List.{list_all};
+ghost use Rattle.values.specs.declared.limits.TheConstants.{MOST_OWNERS};
 ghost use Rattle.component_items.specs.declared.component.Component.{Component as ComponentValue};
-ghost use Rattle.component_items.specs.Ids.{owners_in, IsNumbered};
+ghost use Rattle.component_items.specs.Ids.{ids_in, owners_in, IsNumbered};
 ghost use Rattle.component_items.specs.Kept.{standing_at_top, item_stands, nothing_seen, items_see, item_has_texts, item_has_shape, IsKept};
 ghost use Rattle.component_meaning.specs.Component.{IsComponent};
 
@@ -17,9 +18,9 @@ pub fn texts_are_in_the_table()
     ensures { (bytes : List ℕ) (component : ComponentValue) → IsComponent bytes component → list_all (item_has_texts (length component.texts)) component.items ≡ true }
 {}
 
-/// There are at most 1023 owners besides the top.
+/// There are few enough owners, the top with them.
 pub fn owners_are_few()
-    ensures { (bytes : List ℕ) (component : ComponentValue) → IsComponent bytes component → length (owners_in component.items) ≤ 1023 }
+    ensures { (bytes : List ℕ) (component : ComponentValue) → IsComponent bytes component → length (owners_in component.items) < MOST_OWNERS }
 {}
 
 /// Each item stands where it may.
@@ -37,7 +38,12 @@ pub fn names_are_of_what_is_seen()
     ensures { (bytes : List ℕ) (component : ComponentValue) → IsComponent bytes component → items_see component.items nothing_seen ≡ true }
 {}
 
-/// All that a component keeps, together.
+/// No more ids are taken than the text has bytes, and its end.
+pub fn ids_are_few()
+    ensures { (bytes : List ℕ) (component : ComponentValue) → IsComponent bytes component → length (ids_in component.items) ≤ length bytes + 1 }
+{}
+
+/// All that a component keeps, together, where the text is no longer than what ids can number.
 pub fn components_are_kept()
-    ensures { (bytes : List ℕ) (component : ComponentValue) → IsComponent bytes component → IsKept component }
+    ensures { (bytes : List ℕ) (component : ComponentValue) → length bytes + 1 < 2 ^ 31 → IsComponent bytes component → IsKept component }
 {}

@@ -14,6 +14,7 @@ ghost use Rattle.component_meaning.specs.Meaning.{semantics};
 ghost use Rattle.component_meaning.specs.Checks.{fails_owners};
 ghost use Rattle.component_meaning.specs.Names.{is_full};
 ghost use Rattle.component_meaning.specs.State.{State, start};
+ghost use Rattle.values.specs.declared.limits.TheConstants.{MOST_NODES};
 ghost use Rattle.values.specs.Texts.{index_of};
 ghost use Rattle.text_grammar.specs.declared.component.Terminal.TheVariants.{NewArea};
 ghost use Rattle.component_meaning.specs.Worked.{RefusedAt};
@@ -53,9 +54,9 @@ pub fn bad_utf8()
 
 /// What is computed is what the relations say.
 pub fn outcome_is_meaning()
-    ensures component { (bytes : List ℕ) (component : ComponentValue) → read_of bytes ≡ Some component → nodes_of component.items ≤ 4096 → IsComponent bytes component }
+    ensures component { (bytes : List ℕ) (component : ComponentValue) → read_of bytes ≡ Some component → nodes_of component.items ≤ MOST_NODES → IsComponent bytes component }
     ensures refused { (bytes : List ℕ) (why : Refusal) → refusal_of bytes ≡ Some why → IsNoComponent bytes why }
-    ensures too_large { (bytes : List ℕ) (component : ComponentValue) → read_of bytes ≡ Some component → 4096 < nodes_of component.items → IsNoComponent bytes (too_many_nodes bytes) }
+    ensures too_large { (bytes : List ℕ) (component : ComponentValue) → read_of bytes ≡ Some component → MOST_NODES < nodes_of component.items → IsNoComponent bytes (too_many_nodes bytes) }
 {}
 
 /// Both sides of the limits that are too large for a worked text: 1,023 areas and no more may be declared, and a

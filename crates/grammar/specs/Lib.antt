@@ -10,3 +10,4 @@ pub mod Ends
 pub mod Running
 pub mod Keeping
 pub mod Ahead
+pub mod Paid

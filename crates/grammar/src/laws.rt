@@ -1,6 +1,6 @@
 //! What holds of every grammar whose lookahead is right.
 
-ghost use Rattle.std.specs.Prelude.{◌≡◌, ◌⊎◌, ◌++◌, ◌∷◌, [], ℕ, suc, Bool, true, List, map, length, slice_get, Some};
+ghost use Rattle.std.specs.Prelude.{◌≡◌, ◌⊎◌, ◌++◌, ◌∷◌, [], ℕ, suc, ◌+◌, ◌≤◌, Bool, true, List, map, length, slice_get, Some, Ok};
 ghost use Rattle.std.specs.List.{list_all};
 ghost use Rattle.grammar.specs.declared.symbol.Symbol.{Symbol};
 ghost use Rattle.grammar.specs.declared.symbol.Symbol.TheVariants.{Terminal};
@@ -14,6 +14,7 @@ ghost use Rattle.grammar.specs.Semantics.{Semantics, Reads};
 ghost use Rattle.grammar.specs.Meaning.{Means, IsFirstBad, ClosesWith};
 ghost use Rattle.grammar.specs.Running.{run, read, refused};
 ghost use Rattle.grammar.specs.Ahead.{WithNext, with_next};
+ghost use Rattle.grammar.specs.Paid.{rule_pays, need};
 
 /// Tests that compute over a table, with lists of its terminals, rules and kinds, show all that the other laws
 /// ask of it.
@@ -101,4 +102,14 @@ pub fn next_ones<A>()
         → slice_get (with_next xs) i ≡ Some (record { token = x; next = y }) }
     ensures last { (before : List A) (x : A)
         → slice_get (with_next (before ++ x ∷ [])) (length before) ≡ Some (record { token = x; next = x }) }
+{}
+
+/// Where each production pays for what it adds, what was read is no larger than its tokens: each terminal of a
+/// production pays one, for itself and for what comes behind it.
+pub fn size_is_bounded<W, R, D, K, T, S, E>()
+    ensures { (t : Table W R D K) (m : Semantics W D K T S E) (rise : W → ℕ) (gain : D → ℕ) (size : S → ℕ)
+        → ((w : W) (a b : S) (x : T) → m.accept w a x ≡ Ok b → size b ≤ size a + rise w)
+        → ((d : D) (a : S) → size (m.perform d a) ≤ size a + gain d)
+        → ((r : R) → rule_pays t rise gain r ≡ true)
+        → (s out : List (Symbol W R D)) (a b : S) (xs : List T) → need t rise gain s ≡ 0 → Reads t m s a xs out b → size b ≤ size a + length xs }
 {}

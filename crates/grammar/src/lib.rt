@@ -9,7 +9,7 @@ mod symbol;
 
 pub use laws::{
     lookahead_decides, meaning_is_unique, never_both, next_ones, one_of_both,
-    one_of_both_by_the_last, refusal_is_unique, running_tells, tests_suffice,
+    one_of_both_by_the_last, refusal_is_unique, running_tells, size_is_bounded, tests_suffice,
 };
 pub use stack::Stack;
 pub use symbol::Symbol;
