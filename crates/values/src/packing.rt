@@ -1,7 +1,7 @@
 //! Values packed into words.
 ghost use Rattle.std.specs.Prelude.{◌≡◌, ◌≢◌, ◌<◌, ◌^◌, Some, IfSome, IfNone};
 ghost use Rattle.values.specs.declared.code.Code.{Code as CodeValue};
-ghost use Rattle.values.specs.Packing.{packed, unpacked, IsValue};
+ghost use Rattle.values.specs.Packing.{packed, unpacked, IsValue, IsPacked};
 
 use crate::code::Code;
 
@@ -15,6 +15,8 @@ impl Code {
     /// The value in one word, below 2^34: its 32 bits times 4, and a tag. Empty packs to 0.
     pub fn pack(self) -> u64
         ensures word { result ≡ packed self }
+        ensures value { unpacked result ≡ self }
+        ensures is_packed { IsPacked result }
         ensures small { result < 2 ^ 34 }
     {
         match self {
