@@ -17,6 +17,11 @@ abbrev pub is_area : state.Frame → Bool
 is_area (area_frame id name owner) = true
 is_area _ = false
 
+abbrev pub is_branch : state.Frame → Bool
+is_branch (if_frame id cond) = true
+is_branch (each_frame id rows) = true
+is_branch _ = false
+
 -- Each began where so many declarations were seen, and what is outside of it is known from that.
 abbrev pub opened_in : List Declared → List Block → List Open
 opened_in seen [] = []

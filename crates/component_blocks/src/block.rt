@@ -1,10 +1,8 @@
 //! One block or element that is open.
 
-ghost use Rattle.std.specs.Prelude.{◌≡◌, ◌==◌, [], ◌∷◌, ◌++◌, OnOk};
-
 use crate::attributes::Attributes;
 use crate::rows::Rows;
-use component_items::Items;
+use component_items::{Attr, Item, Items};
 use std::alloc::AllocError;
 use values::Expr;
 
@@ -32,12 +30,12 @@ pub enum Frame {
 }
 
 impl Frame {
-    ghost use Rattle.std.specs.Prelude.{◌≡◌, ◌==◌};
+    ghost use Rattle.std.specs.Prelude.{◌≡◌, ◌==◌, Option, OnOk};
     ghost use Rattle.std.specs.List.{list_any};
-    ghost use Rattle.component_items.specs.Kept.{is_in_area};
-    ghost use Rattle.component_meaning.specs.State.{tag_of, attrs_of};
+    ghost use Rattle.component_items.specs.Kept.{Standing};
+    ghost use Rattle.component_meaning.specs.State.{Rows as Fielded, tag_of, attrs_of, inside, rows_of};
     ghost use Rattle.component_meaning.specs.Names.{name_of};
-    ghost use Rattle.component_blocks.specs.Blocks.{frame_of, is_area};
+    ghost use Rattle.component_blocks.specs.Blocks.{frame_of, is_area, is_branch};
     ghost use Rattle.component_blocks.specs.Nest as nest;
 
     /// Whether it is an area.
@@ -79,6 +77,28 @@ impl Frame {
             _ => false,
         }
     }
+
+    /// Whether what is in it is there under a condition: an `if` or an `each`.
+    pub fn is_branch(&self) -> bool
+        ensures { result ≡ is_branch (frame_of self.now) }
+    {
+        match self {
+            Frame::If { .. } | Frame::Each { .. } => true,
+            _ => false,
+        }
+    }
+
+    /// Adds the attribute at the end, where it is an element.
+    pub fn add_attribute(&mut self, attr: Attr) -> Result<(), AllocError>
+        ensures added { OnOk result (frame_of self.new ≡ nest.frame_with attr (frame_of self.old)) }
+        ensures standing { (around : Standing) → inside (frame_of self.new) around ≡ inside (frame_of self.old) around }
+        ensures rows { (around : Option Fielded) → rows_of (frame_of self.new) around ≡ rows_of (frame_of self.old) around }
+    {
+        match self {
+            Frame::Element { attrs, .. } => attrs.push(attr),
+            _ => Ok(()),
+        }
+    }
 }
 
 /// A block or element that is open.
@@ -93,4 +113,37 @@ pub struct Block {
     pub branched: bool,
     /// The store of the `each` around what is read in it.
     pub rows: Option<Rows>,
+}
+
+impl Block {
+    ghost use Rattle.std.specs.Prelude.{◌≡◌};
+    ghost use Rattle.component_meaning.specs.Actions.{item_of};
+    ghost use Rattle.component_blocks.specs.Blocks.{frame_of};
+
+    /// The item that it is.
+    pub fn into_item(self) -> Item
+        ensures { result ≡ item_of (frame_of self.frame) self.items }
+    {
+        let Block { frame, items, .. } = self;
+        match frame {
+            Frame::Area { id, name, owner } => Item::Area {
+                id,
+                name,
+                owner,
+                items,
+            },
+            Frame::If { id, cond } => Item::If { id, cond, items },
+            Frame::Each { id, rows } => Item::Each {
+                id,
+                store: rows.store(),
+                items,
+            },
+            Frame::Element { tag, closed, attrs } => Item::Element {
+                tag,
+                closed,
+                attrs: attrs.into_attrs(),
+                items,
+            },
+        }
+    }
 }

@@ -226,7 +226,8 @@ impl Scope {
 
     /// The declaration is seen from here on.
     pub fn declare(&mut self, declaration: Declaration) -> Result<(), AllocError>
-        ensures { OnOk result (self.new ≡ declaration ∷ self.old) }
+        ensures seen { OnOk result (self.new ≡ declaration ∷ self.old) }
+        ensures unchanged { OnErr result (self.new ≡ self.old) }
     {
         let at = declaration.name as usize;
         grow(&mut self.places, at + 1)?;
