@@ -1,3 +1,4 @@
 pub mod Places
 pub mod Around
 pub mod Whole
+pub mod Agrees

@@ -6,6 +6,7 @@ mod attributes;
 mod block;
 mod blocks;
 mod fields;
+pub mod laws;
 mod rows;
 mod scope;
 
