@@ -5,3 +5,4 @@ pub mod InputDecided
 pub mod InputComputed
 pub mod InputWorked
 pub mod InputEither
+pub mod Grows

@@ -1,6 +1,6 @@
 //! What follows from the definitions alone.
 
-ghost use Rattle.std.specs.Prelude.{◌≡◌, ◌⊎◌, ℕ, List};
+ghost use Rattle.std.specs.Prelude.{◌≡◌, ◌⊎◌, ◌++◌, ℕ, List};
 ghost use Rattle.component_items.specs.declared.component.Component.{Component};
 ghost use Rattle.component_items.specs.declared.refusal.Refusal.{Refusal};
 ghost use Rattle.script_items.specs.declared.operation.ScriptOp.{ScriptOp};
@@ -25,4 +25,9 @@ pub fn one_refusal()
 /// Bytes are the text of a script for a component, or are refused.
 pub fn one_of_both()
     ensures { (component : Component) (first_line : ℕ) (bytes : List ℕ) → ((script : List (List (List ScriptOp))) × (texts : List (List ℕ)) × IsScript component first_line bytes script texts) ⊎ ((why : Refusal) × IsNoScript component first_line bytes why) }
+{}
+
+/// A script only adds texts: those of its component keep their numbers.
+pub fn texts_only_grow()
+    ensures { (component : Component) (first_line : ℕ) (bytes : List ℕ) (script : List (List (List ScriptOp))) (texts : List (List ℕ)) → IsScript component first_line bytes script texts → (more : List (List ℕ)) × (texts ≡ component.texts ++ more) }
 {}
