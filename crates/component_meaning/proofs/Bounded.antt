@@ -93,10 +93,10 @@ perform_size action.MakeMemo a = numbered_le (λ id. item.Memo id a.name (whole 
 perform_size action.MakeEffect a = numbered_le (λ id. item.Effect id a.name (whole a)) 1 (known_as effect_name (taken a))
 perform_size action.BeginEntries a = omega arith
 perform_size action.AddValue a = le_plus (size a) 0
-perform_size action.MakeResource a = numbered_le (λ id. item.Resource id a.name a.number a.keys a.values) 1 (known_as resource_name a)
+perform_size action.MakeResource a = numbered_le (λ id. item.Resource id a.name a.number a.keys a.values) 1 (record (known_as resource_name a) { keys = []; values = [] })
 perform_size action.MakeLoad a = numbered_le (λ id. item.Load id a.name (id_of a.used) (whole a)) 2 (known_as load_name (taken a))
 perform_size action.MakeStore a =
-    let more = numbered_le (λ id. item.Store id a.name a.number a.fields a.values) (2 + length a.fields) (record (known_as (store_name a.fields) a) { fields = [] }) in
+    let more = numbered_le (λ id. item.Store id a.name a.number a.fields a.values) (2 + length a.fields) (record (known_as (store_name a.fields) a) { fields = []; values = [] }) in
     omega (arith, more)
 perform_size action.MakeCleanup a = let same = item_size (item.Cleanup a.written) a a.opened in omega (arith, same)
 perform_size action.MakeText a = let same = item_size (item.Text a.written) a a.opened in omega (arith, same)

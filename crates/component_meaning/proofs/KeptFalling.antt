@@ -90,10 +90,12 @@ perform_falls action.MakeMemo a h = named_falls (λ id. item.Memo id a.name (who
 perform_falls action.MakeEffect a h = named_falls (λ id. item.Effect id a.name (whole a)) 1 effect_name (taken a) h (omega arith)
 perform_falls action.BeginEntries a h = h
 perform_falls action.AddValue a h = h
-perform_falls action.MakeResource a h = named_falls (λ id. item.Resource id a.name a.number a.keys a.values) 1 resource_name a h (omega arith)
+perform_falls action.MakeResource a h =
+    numbered_falls (λ id. item.Resource id a.name a.number a.keys a.values) 1 (record (known_as resource_name a) { keys = []; values = [] })
+    (declared_more a.next_id (a.next_id + 1) a.name resource_name a.seen a.opened (omega arith) h)
 perform_falls action.MakeLoad a h = named_falls (λ id. item.Load id a.name (id_of a.used) (whole a)) 2 load_name (taken a) h (omega arith)
 perform_falls action.MakeStore a h =
-    numbered_falls (λ id. item.Store id a.name a.number a.fields a.values) (2 + length a.fields) (record (known_as (store_name a.fields) a) { fields = [] })
+    numbered_falls (λ id. item.Store id a.name a.number a.fields a.values) (2 + length a.fields) (record (known_as (store_name a.fields) a) { fields = []; values = [] })
     (declared_more a.next_id (a.next_id + (2 + length a.fields)) a.name (store_name a.fields) a.seen a.opened (omega arith) h)
 perform_falls action.MakeCleanup a h = item_falls (item.Cleanup a.written) a a.opened h
 perform_falls action.MakeText a h = item_falls (item.Text a.written) a a.opened h

@@ -248,9 +248,9 @@ perform_kept action.MakeMemo a h = numbered_kept (λ id. item.Memo id a.name (wh
 perform_kept action.MakeEffect a h = numbered_kept (λ id. item.Effect id a.name (whole a)) 1 (known_as effect_name (taken a)) (effect_ids _ _ _) (effect_owners _ _ _) h
 perform_kept action.BeginEntries a h = h
 perform_kept action.AddValue a h = h
-perform_kept action.MakeResource a h = numbered_kept (λ id. item.Resource id a.name a.number a.keys a.values) 1 (known_as resource_name a) (resource_ids _ _ _ _ _) (resource_owners _ _ _ _ _) h
+perform_kept action.MakeResource a h = numbered_kept (λ id. item.Resource id a.name a.number a.keys a.values) 1 (record (known_as resource_name a) { keys = []; values = [] }) (resource_ids _ _ _ _ _) (resource_owners _ _ _ _ _) h
 perform_kept action.MakeLoad a h = numbered_kept (λ id. item.Load id a.name (id_of a.used) (whole a)) 2 (known_as load_name (taken a)) (load_ids _ _ _ _) (load_owners _ _ _ _) h
-perform_kept action.MakeStore a h = numbered_kept (λ id. item.Store id a.name a.number a.fields a.values) (2 + length a.fields) (record (known_as (store_name a.fields) a) { fields = [] }) (store_ids _ _ _ _ _) (store_owners _ _ _ _ _) h
+perform_kept action.MakeStore a h = numbered_kept (λ id. item.Store id a.name a.number a.fields a.values) (2 + length a.fields) (record (known_as (store_name a.fields) a) { fields = []; values = [] }) (store_ids _ _ _ _ _) (store_owners _ _ _ _ _) h
 perform_kept action.MakeCleanup a h = plain_kept (item.Cleanup a.written) a (cleanup_ids _) (cleanup_owners _) h
 perform_kept action.MakeText a h = plain_kept (item.Text a.written) a (text_ids _) (text_owners _) h
 perform_kept action.MakeShown a h = numbered_kept (λ id. item.Shown id (whole a)) 1 (taken a) (shown_ids _ _) (shown_owners _ _) h

@@ -68,9 +68,9 @@ owner_after action.MakeMemo a = numbered_owner (λ id. item.Memo id a.name (whol
 owner_after action.MakeEffect a = numbered_owner (λ id. item.Effect id a.name (whole a)) 1 (known_as effect_name (taken a)) ∙ omega arith
 owner_after action.BeginEntries a = omega arith
 owner_after action.AddValue a = omega arith
-owner_after action.MakeResource a = numbered_owner (λ id. item.Resource id a.name a.number a.keys a.values) 1 (known_as resource_name a) ∙ omega arith
+owner_after action.MakeResource a = numbered_owner (λ id. item.Resource id a.name a.number a.keys a.values) 1 (record (known_as resource_name a) { keys = []; values = [] }) ∙ omega arith
 owner_after action.MakeLoad a = numbered_owner (λ id. item.Load id a.name (id_of a.used) (whole a)) 2 (known_as load_name (taken a)) ∙ omega arith
-owner_after action.MakeStore a = numbered_owner (λ id. item.Store id a.name a.number a.fields a.values) (2 + length a.fields) (record (known_as (store_name a.fields) a) { fields = [] }) ∙ omega arith
+owner_after action.MakeStore a = numbered_owner (λ id. item.Store id a.name a.number a.fields a.values) (2 + length a.fields) (record (known_as (store_name a.fields) a) { fields = []; values = [] }) ∙ omega arith
 owner_after action.MakeCleanup a = kept_owner (item.Cleanup a.written) a a.opened ∙ omega arith
 owner_after action.MakeText a = kept_owner (item.Text a.written) a a.opened ∙ omega arith
 owner_after action.MakeShown a = numbered_owner (λ id. item.Shown id (whole a)) 1 (taken a) ∙ omega arith

@@ -293,13 +293,13 @@ actions action.MakeEffect to_declare after a known goes h =
     behind after (perform action.MakeEffect a) goes (numbered_stood (λ id. item.Effect id a.name (whole a)) 1 (known_as effect_name (taken a)) h.standing (effect_stands _ _ _ _ h.allowed))
 actions action.MakeEffect _ after a known goes h = absurd cc
 actions action.MakeResource to_have_resource after a known goes h =
-    behind after (perform action.MakeResource a) goes (numbered_stood (λ id. item.Resource id a.name a.number a.keys a.values) 1 (known_as resource_name a) h.standing (resource_stands _ _ _ _ _ _ h.allowed))
+    behind after (perform action.MakeResource a) goes (numbered_stood (λ id. item.Resource id a.name a.number a.keys a.values) 1 (record (known_as resource_name a) { keys = []; values = [] }) h.standing (resource_stands _ _ _ _ _ _ h.allowed))
 actions action.MakeResource _ after a known goes h = absurd cc
 actions action.MakeLoad to_declare after a known goes h =
     behind after (perform action.MakeLoad a) goes (numbered_stood (λ id. item.Load id a.name (id_of a.used) (whole a)) 2 (known_as load_name (taken a)) h.standing (load_stands _ _ _ _ _ h.allowed))
 actions action.MakeLoad _ after a known goes h = absurd cc
 actions action.MakeStore to_declare after a known goes h =
-    behind after (perform action.MakeStore a) goes (numbered_stood (λ id. item.Store id a.name a.number a.fields a.values) (2 + length a.fields) (record (known_as (store_name a.fields) a) { fields = [] }) h.standing (store_stands _ _ _ _ _ _ h.allowed))
+    behind after (perform action.MakeStore a) goes (numbered_stood (λ id. item.Store id a.name a.number a.fields a.values) (2 + length a.fields) (record (known_as (store_name a.fields) a) { fields = []; values = [] }) h.standing (store_stands _ _ _ _ _ _ h.allowed))
 actions action.MakeStore _ after a known goes h = absurd cc
 actions action.MakeCleanup to_have_cleanup after a known goes h = behind after (perform action.MakeCleanup a) goes (item_stood (item.Cleanup a.written) a a.opened h.standing (cleanup_stands _ _ h.allowed))
 actions action.MakeCleanup _ after a known goes h = absurd cc

@@ -367,14 +367,14 @@ actions bytes action.AddValue _ after a known goes h = absurd cc
 actions bytes action.MakeResource even_keys after a known goes h =
     let even : length a.keys ≡ length a.values = omega (arith, h.means.even) in
     nothing_known bytes nothing after (perform action.MakeResource a) known goes
-    (numbered_shaped (λ id. item.Resource id a.name a.number a.keys a.values) 1 (known_as resource_name a) h.shaped (resource_shape _ _ _ _ _ even h.means.distinct))
+    (numbered_shaped (λ id. item.Resource id a.name a.number a.keys a.values) 1 (record (known_as resource_name a) { keys = []; values = [] }) h.shaped (resource_shape _ _ _ _ _ even h.means.distinct))
 actions bytes action.MakeResource _ after a known goes h = absurd cc
 actions bytes action.MakeLoad now after a known goes h =
     nothing_known bytes now after (perform action.MakeLoad a) known goes (numbered_shaped (λ id. item.Load id a.name (id_of a.used) (whole a)) 2 (known_as load_name (taken a)) h.shaped (load_shape _ _ _ _))
 actions bytes action.MakeStore even_fields after a known goes h =
     let even : length a.fields ≡ length a.values = omega (arith, h.means.even) in
     nothing_known bytes nothing after (perform action.MakeStore a) known goes
-    (numbered_shaped (λ id. item.Store id a.name a.number a.fields a.values) (2 + length a.fields) (record (known_as (store_name a.fields) a) { fields = [] }) h.shaped (store_shape _ _ _ _ _ even h.means.few))
+    (numbered_shaped (λ id. item.Store id a.name a.number a.fields a.values) (2 + length a.fields) (record (known_as (store_name a.fields) a) { fields = []; values = [] }) h.shaped (store_shape _ _ _ _ _ even h.means.few))
 actions bytes action.MakeStore _ after a known goes h = absurd cc
 actions bytes action.MakeCleanup now after a known goes h = nothing_known bytes now after (perform action.MakeCleanup a) known goes (item_shaped (item.Cleanup a.written) a a.opened h.shaped (cleanup_shape _))
 actions bytes action.MakeText now after a known goes h = nothing_known bytes now after (perform action.MakeText a) known goes (item_shaped (item.Text a.written) a a.opened h.shaped (text_shape _))

@@ -297,15 +297,16 @@ perform_kept action.MakeEffect a h = let t = taken_kept a h in numbered_kept (λ
 perform_kept action.BeginEntries a h = record { made = h.made; reading = reads h.reading _ _ _ _ _ _ _ h.reading.named h.reading.wrote refl refl refl h.reading.literal_has h.reading.operands_have }
 perform_kept action.AddValue a h = record { made = h.made; reading = with_value_read h.reading a.literal h.reading.literal_has }
 perform_kept action.MakeResource a h =
-    numbered_kept (λ id. item.Resource id a.name a.number a.keys a.values) 1 (known_as resource_name a) (record { made = h.made; reading = h.reading })
+    numbered_kept (λ id. item.Resource id a.name a.number a.keys a.values) 1 (record (known_as resource_name a) { keys = []; values = [] })
+    (record { made = h.made; reading = reads h.reading _ _ _ _ _ _ _ h.reading.named h.reading.wrote h.reading.fields_have refl refl h.reading.literal_has h.reading.operands_have })
     (resource_has _ _ _ _ _ _ h.reading.named h.reading.keys_have h.reading.values_have)
 perform_kept action.MakeLoad a h =
     let t = taken_kept a h in
     numbered_kept (λ id. item.Load id a.name (id_of a.used) (whole a)) 2 (known_as load_name (taken a)) (record { made = t.made; reading = t.reading })
     (load_has _ _ _ _ _ h.reading.named (whole_has a h))
 perform_kept action.MakeStore a h =
-    numbered_kept (λ id. item.Store id a.name a.number a.fields a.values) (2 + length a.fields) (record (known_as (store_name a.fields) a) { fields = [] })
-    (record { made = h.made; reading = reads h.reading _ _ _ _ _ _ _ h.reading.named h.reading.wrote refl h.reading.keys_have h.reading.values_have h.reading.literal_has h.reading.operands_have })
+    numbered_kept (λ id. item.Store id a.name a.number a.fields a.values) (2 + length a.fields) (record (known_as (store_name a.fields) a) { fields = []; values = [] })
+    (record { made = h.made; reading = reads h.reading _ _ _ _ _ _ _ h.reading.named h.reading.wrote refl h.reading.keys_have refl h.reading.literal_has h.reading.operands_have })
     (store_has _ _ _ _ _ _ h.reading.named h.reading.fields_have h.reading.values_have)
 perform_kept action.MakeCleanup a h = item_kept (item.Cleanup a.written) a h (cleanup_has _ _ h.reading.wrote)
 perform_kept action.MakeText a h = item_kept (item.Text a.written) a h (text_has _ _ h.reading.wrote)

@@ -384,7 +384,7 @@ actions action.MakeEffect (at f n) after a known goes h =
     (numbered_seen (λ id. item.Effect id a.name (whole a)) 1 (known_as effect_name (taken a)) a.seen _ h.sees (effect_sees _ _ _ _ whole_sees.1) refl (adds_nothing a.opened))
 actions action.MakeResource (at in_no_element zero) after a known goes h =
     behind after (perform action.MakeResource a) known goes
-    (numbered_seen (λ id. item.Resource id a.name a.number a.keys a.values) 1 (known_as resource_name a) a.seen _ h.sees (resource_sees _ _ _ _ _ _) refl (may_add _ a.opened h.means))
+    (numbered_seen (λ id. item.Resource id a.name a.number a.keys a.values) 1 (record (known_as resource_name a) { keys = []; values = [] }) a.seen _ h.sees (resource_sees _ _ _ _ _ _) refl (may_add _ a.opened h.means))
 actions action.MakeResource (at in_no_element (suc n)) after a known goes h = absurd cc
 actions action.MakeResource (at _ n) after a known goes h = absurd cc
 actions action.MakeLoad (at uses_resource (suc zero)) after a known goes h =
@@ -396,7 +396,7 @@ actions action.MakeLoad (at uses_resource (suc (suc n))) after a known goes h = 
 actions action.MakeLoad (at _ n) after a known goes h = absurd cc
 actions action.MakeStore (at in_no_element zero) after a known goes h =
     behind after (perform action.MakeStore a) known goes
-    (numbered_seen (λ id. item.Store id a.name a.number a.fields a.values) (2 + length a.fields) (record (known_as (store_name a.fields) a) { fields = [] }) a.seen _ h.sees (store_sees _ _ _ _ _ _) refl (may_add _ a.opened h.means))
+    (numbered_seen (λ id. item.Store id a.name a.number a.fields a.values) (2 + length a.fields) (record (known_as (store_name a.fields) a) { fields = []; values = [] }) a.seen _ h.sees (store_sees _ _ _ _ _ _) refl (may_add _ a.opened h.means))
 actions action.MakeStore (at in_no_element (suc n)) after a known goes h = absurd cc
 actions action.MakeStore (at _ n) after a known goes h = absurd cc
 actions action.MakeCleanup (at f n) after a known goes h =

@@ -122,9 +122,9 @@ perform action.MakeMemo a = with_numbered (λ id. item.Memo id a.name (whole a))
 perform action.MakeEffect a = with_numbered (λ id. item.Effect id a.name (whole a)) 1 (known_as effect_name (taken a))
 perform action.BeginEntries a = record a { keys = []; fields = []; values = [] }
 perform action.AddValue a = record a { values = a.values ++ a.literal ∷ [] }
-perform action.MakeResource a = with_numbered (λ id. item.Resource id a.name a.number a.keys a.values) 1 (known_as resource_name a)
+perform action.MakeResource a = with_numbered (λ id. item.Resource id a.name a.number a.keys a.values) 1 (record (known_as resource_name a) { keys = []; values = [] })
 perform action.MakeLoad a = with_numbered (λ id. item.Load id a.name (id_of a.used) (whole a)) 2 (known_as load_name (taken a))
-perform action.MakeStore a = with_numbered (λ id. item.Store id a.name a.number a.fields a.values) (2 + length a.fields) (record (known_as (store_name a.fields) a) { fields = [] })
+perform action.MakeStore a = with_numbered (λ id. item.Store id a.name a.number a.fields a.values) (2 + length a.fields) (record (known_as (store_name a.fields) a) { fields = []; values = [] })
 perform action.MakeCleanup a = with_item (item.Cleanup a.written) a
 perform action.MakeText a = with_item (item.Text a.written) a
 perform action.MakeShown a = with_numbered (λ id. item.Shown id (whole a)) 1 (taken a)

@@ -9,8 +9,9 @@ mod refused;
 
 pub use accepted::{limits_reached, page_of_todos, small_components};
 pub use kept::{
-    components_are_kept, ids_are_few, ids_are_numbered, items_stand_where_they_may, names_are_of_what_is_seen,
-    owners_are_few, stores_and_resources_have_their_shape, texts_are_in_the_table,
+    components_are_kept, ids_are_few, ids_are_numbered, items_stand_where_they_may,
+    names_are_of_what_is_seen, owners_are_few, stores_and_resources_have_their_shape,
+    texts_are_in_the_table,
 };
 pub use laws::{
     bad_utf8, closers_never_pass, limits_of_large_texts, never_both, one_component, one_of_both,
