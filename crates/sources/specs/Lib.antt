@@ -1,0 +1,4 @@
+pub mod Colours
+pub mod Bodies
+pub mod Rows
+pub mod Bits

@@ -1,0 +1,11 @@
+//! What a node read when it last ran, what is kept of each row between phases, and sets of rows.
+#![tactic(auto)]
+
+mod body;
+mod colour;
+pub mod laws;
+mod opening;
+
+pub use body::{Body, Cause, Read, Reads};
+pub use colour::Colour;
+pub use opening::{Opened, Opening};
