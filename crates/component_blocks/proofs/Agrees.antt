@@ -5,7 +5,7 @@ use Rattle.component_items.specs.declared.component.Attr.{Attr}
 use Rattle.component_items.specs.declared.component.Item.{Item}
 use Rattle.component_meaning.specs.State.{State, What, Declared, Frame, area_frame, if_frame, each_frame, element_frame, Open}
 use Rattle.component_meaning.specs.Actions.{with_item, known_as, with_open, closed, with_attr, item_of}
-use Rattle.component_blocks.specs.Nest.{nest_in, with_nest, declaring, holding, opening, closing, may_take_attr, taking}
+use Rattle.component_blocks.specs.Nest.{nest_in, with_nest, declaring, holding, opening, closing, taking_numbered}
 
 holds : (i : Item) (a : State) (opened : List Open) → with_item i (record a { opened = opened }) ≡ with_nest (holding i (nest_in (record a { opened = opened }))) (record a { opened = opened })
 holds i a [] = refl
@@ -36,7 +36,7 @@ closing_agrees a = closes_all a a.opened
 
 -- the attribute comes where one may
 abbrev pub Takes : (ℕ → Attr) → ℕ → State → Type 0
-Takes made count a = with_attr made count a ≡ (if may_take_attr a.opened then record (with_nest (taking (made a.next_id) (nest_in a)) a) { next_id = a.next_id + count } else a)
+Takes made count a = with_attr made count a ≡ taking_numbered (made a.next_id) count a
 
 takes : (made : ℕ → Attr) (count : ℕ) (a : State) (frame : Frame) (outside : List Declared) (items : List Item) (outer : List Open) → Takes made count (record a { opened = record { frame = frame; outside = outside; items = items } ∷ outer })
 takes made count a (area_frame id name owner) outside [] outer = refl

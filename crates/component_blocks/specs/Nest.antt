@@ -1,5 +1,5 @@
 -- What is seen and what is open, apart from the rest of what was read.
-use Rattle.std.specs.Prelude.{ℕ, ◌==◌, Bool, true, false, List, [], ◌∷◌, ◌++◌}
+use Rattle.std.specs.Prelude.{ℕ, ◌+◌, ◌==◌, Bool, true, false, if◌then◌else◌, List, [], ◌∷◌, ◌++◌}
 use Rattle.std.specs.List.{list_any}
 use Rattle.component_items.specs.declared.component.Attr.{Attr}
 use Rattle.component_items.specs.declared.component.Item.{Item}
@@ -84,6 +84,10 @@ taking attr n = joined n.opened
     joined : List Open → Nest
     joined [] = n
     joined (o ∷ outer) = record n { opened = record o { frame = frame_with attr o.frame } ∷ outer }
+
+-- the attribute, which takes so many ids, comes where one may
+abbrev pub taking_numbered : Attr → ℕ → State → State
+taking_numbered attr count a = if may_take_attr a.opened then record (with_nest (taking attr (nest_in a)) a) { next_id = a.next_id + count } else a
 
 -- the innermost open element has an attribute whose name is this text
 abbrev pub has_attr : ℕ → List Open → Bool

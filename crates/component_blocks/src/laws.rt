@@ -1,12 +1,12 @@
 //! What is done with what is seen and what is open is what the meaning of component texts does with a whole state. Each
 //! is the contract of a function that does nothing.
 
-ghost use Rattle.std.specs.Prelude.{◌≡◌, ℕ, ◌+◌, if◌then◌else◌};
+ghost use Rattle.std.specs.Prelude.{◌≡◌, ℕ};
 ghost use Rattle.component_items.specs.declared.component.Attr.{Attr as AttrValue};
 ghost use Rattle.component_items.specs.declared.component.Item.{Item as ItemValue};
 ghost use Rattle.component_meaning.specs.State.{State, What, Frame};
 ghost use Rattle.component_meaning.specs.Actions.{with_item, known_as, with_open, closed, with_attr};
-ghost use Rattle.component_blocks.specs.Nest.{nest_in, with_nest, declaring, holding, opening, closing, may_take_attr, taking};
+ghost use Rattle.component_blocks.specs.Nest.{nest_in, with_nest, declaring, holding, opening, closing, taking_numbered};
 
 /// An item, a declaration and the end of a block do nothing else to a state.
 pub fn parts_of_a_state()
@@ -18,5 +18,5 @@ pub fn parts_of_a_state()
 
 /// An attribute comes, and takes its ids, exactly where one may.
 pub fn attributes_of_a_state()
-    ensures { (made : ℕ → AttrValue) (count : ℕ) (a : State) → with_attr made count a ≡ (if may_take_attr a.opened then record (with_nest (taking (made a.next_id) (nest_in a)) a) { next_id = a.next_id + count } else a) }
+    ensures { (made : ℕ → AttrValue) (count : ℕ) (a : State) → with_attr made count a ≡ taking_numbered (made a.next_id) count a }
 {}
