@@ -1,2 +1,3 @@
 pub mod BodyLemmas
 pub mod RowLemmas
+pub mod BitLemmas

@@ -1,5 +1,5 @@
 -- Sets of numbers below a bound, as the list that says of each number whether it is in.
-use Rattle.std.specs.Prelude.{◌≡◌, ℕ, ◌+◌, ◌*◌, ◌/◌, ◌%◌, ◌<◌, ◌≤◌, Bool, true, false, ◌==◌, if◌then◌else◌, List, [], ◌∷◌, length, map, drop, slice_get, slice_index, Option, Some, None}
+use Rattle.std.specs.Prelude.{◌≡◌, ℕ, ◌+◌, ◌*◌, ◌/◌, ◌%◌, ◌^◌, ◌<◌, ◌≤◌, Bool, true, false, ◌==◌, if◌then◌else◌, List, [], ◌∷◌, length, map, drop, slice_get, slice_index, Option, Some, None}
 use Rattle.std.specs.List.{range_with_len}
 use Rattle.std.specs.Int.{bit_at}
 
@@ -50,6 +50,7 @@ set_of words bits = map (bit_in words) (range_with_len 0 bits)
 
 -- words that hold a set of numbers below `bits`, and nothing else
 pub record HoldsSet (words : List ℕ) (bits : ℕ) : Type 0 where
+  pub few : bits < 2 ^ 32
   pub long : length words ≡ word_count bits
   pub none_above : (number : ℕ) → bits ≤ number → bit_in words number ≡ false
 
