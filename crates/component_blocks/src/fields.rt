@@ -6,6 +6,7 @@ use std::alloc::{AllocError, Global};
 use std::collections::HashMap;
 use std::marker::Model;
 use std::rc::Rc;
+use values::Numbers;
 
 /// The names of a store's fields, by their numbers in the table of texts, in text order. The place of a name among them
 /// is found at once, however many there are.
@@ -42,6 +43,14 @@ impl Fields {
         ensures { result.now ≡ self.now }
     {
         self.names.as_slice()
+    }
+
+    /// A list of the names, in text order.
+    pub fn listed(&self, alloc: Global) -> Result<Numbers, AllocError>
+        ensures { IfOk result (λ names. names ≡ self.now) }
+    {
+        let names = Vec::from_slice(alloc, self.names.as_slice())?;
+        Ok(Numbers::from_vec(names))
     }
 
     /// The place of the first field of this name, counted from 0.

@@ -1,13 +1,13 @@
 //! The keys of a resource.
 
-ghost use Rattle.std.specs.Prelude.{◌≡◌, false, [], ◌∷◌, ◌++◌, OnOk};
+ghost use Rattle.std.specs.Prelude.{◌≡◌, false, [], ◌∷◌, ◌++◌, IfOk, OnOk};
 ghost use Rattle.std.specs.List.{list_any};
 ghost use Rattle.values.specs.Evaluation.{is_same};
 
 use indexmap::IndexSet;
 use std::alloc::{AllocError, Global};
 use std::marker::Model;
-use values::Code;
+use values::{Code, Codes};
 
 /// Distinct keys, in text order. Whether one is among them is found at once, however many there are. Contracts see
 /// the list of the keys.
@@ -49,5 +49,13 @@ impl Keys {
     {
         self.keys.insert(key)?;
         Ok(())
+    }
+
+    /// The keys alone.
+    pub fn into_codes(self, alloc: Global) -> Result<Codes, AllocError>
+        ensures { IfOk result (λ codes. codes ≡ self) }
+    {
+        let keys = Vec::from_slice(alloc, self.keys.as_slice())?;
+        Ok(Codes::from_vec(keys))
     }
 }

@@ -3,6 +3,7 @@
 #![tactic(auto)]
 
 mod accept;
+mod actions;
 mod keys;
 mod spelling;
 mod state;
