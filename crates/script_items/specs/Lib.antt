@@ -1,1 +1,3 @@
 pub mod Script
+pub mod Members
+pub mod KeptFor

@@ -6,3 +6,8 @@ pub mod InputComputed
 pub mod InputWorked
 pub mod InputEither
 pub mod Grows
+pub mod Walk
+pub mod KeptOps
+pub mod KeptFew
+pub mod KeptNamed
+pub mod KeptWords

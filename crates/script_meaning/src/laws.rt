@@ -1,9 +1,13 @@
 //! What follows from the definitions alone.
 
-ghost use Rattle.std.specs.Prelude.{◌≡◌, ◌⊎◌, ◌++◌, ℕ, List};
+ghost use Rattle.std.specs.Prelude.{◌≡◌, ◌⊎◌, ◌++◌, ℕ, List, length};
 ghost use Rattle.component_items.specs.declared.component.Component.{Component};
 ghost use Rattle.component_items.specs.declared.refusal.Refusal.{Refusal};
 ghost use Rattle.script_items.specs.declared.operation.ScriptOp.{ScriptOp};
+ghost use Rattle.script_items.specs.Script.{IsScript as IsShort};
+ghost use Rattle.component_items.specs.Kept.{IsKept};
+ghost use Rattle.script_items.specs.KeptFor.{AllOps, HasTexts, NamesMembers};
+ghost use Rattle.script_items.specs.Members.{members_of};
 ghost use Rattle.script_meaning.specs.Script.{IsScript, IsNoScript};
 
 /// Bytes are the text of at most one script for a component, and the texts are then known.
@@ -30,4 +34,14 @@ pub fn one_of_both()
 /// A script only adds texts: those of its component keep their numbers.
 pub fn texts_only_grow()
     ensures { (component : Component) (first_line : ℕ) (bytes : List ℕ) (script : List (List (List ScriptOp))) (texts : List (List ℕ)) → IsScript component first_line bytes script texts → (more : List (List ℕ)) × (texts ≡ component.texts ++ more) }
+{}
+
+/// A script has few phases, and each of them few lanes.
+pub fn scripts_are_short()
+    ensures { (component : Component) (first_line : ℕ) (bytes : List ℕ) (script : List (List (List ScriptOp))) (texts : List (List ℕ)) → IsScript component first_line bytes script texts → IsShort script }
+{}
+
+/// Each text of an operation is in the table that the component has with the script.
+pub fn words_are_in_the_table()
+    ensures { (component : Component) (first_line : ℕ) (bytes : List ℕ) (script : List (List (List ScriptOp))) (texts : List (List ℕ)) → IsKept component → IsScript component first_line bytes script texts → AllOps (HasTexts (length texts)) script }
 {}
