@@ -1,5 +1,5 @@
 -- Right bodies.
-use Rattle.std.proofs.Common.{◌≡◌, ℕ, zero, suc, ◌<◌, List, [], ◌∷◌, slice_get, Some, map, Contains, refl, sym, ap, subst, ◌∙◌, arith, Bool, true, false, if◌then◌else◌, ◌==◌}
+use Rattle.std.proofs.Common.{◌≡◌, ℕ, zero, suc, List, [], ◌∷◌, slice_get, Some, Contains, refl, sym, ap, subst, ◌∙◌, arith, Bool, true, false, if◌then◌else◌, ◌==◌}
 use Rattle.values.specs.declared.code.Code.{Code}
 use Rattle.values.specs.declared.expr.Expr.{Expr}
 use Rattle.values.specs.Evaluation.{value_of, reads_of}

@@ -1,3 +1,4 @@
 pub mod BodyLemmas
 pub mod RowLemmas
 pub mod BitLemmas
+pub mod TriedLemmas

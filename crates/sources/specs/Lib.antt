@@ -2,3 +2,4 @@ pub mod Colours
 pub mod Bodies
 pub mod Rows
 pub mod Bits
+pub mod Tried

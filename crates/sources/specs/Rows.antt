@@ -1,5 +1,5 @@
 -- What holds of the rows of a plan between any two steps of the work of one caller, and between phases.
-use Rattle.std.specs.Prelude.{◌≡◌, ◌≢◌, ℕ, zero, suc, ◌<◌, ◌≤◌, true, false, List, [], ◌∷◌, Contains, slice_get, length, Option, Some, None}
+use Rattle.std.specs.Prelude.{◌≡◌, ◌≢◌, ℕ, zero, suc, ◌<◌, ◌≤◌, true, false, List, [], ◌∷◌, Contains, slice_get, length, Some, None}
 use Rattle.values.specs.declared.code.Code.{Code}
 use Rattle.values.specs.declared.plan.Plan.{Plan}
 use Rattle.values.specs.declared.plan.PlanNode.{PlanNode}

@@ -11,3 +11,6 @@ pub use bit_row::BitRow;
 pub use body::{Body, Cause, Read, Reads};
 pub use colour::Colour;
 pub use opening::{Opened, Opening};
+
+#[cfg(test)]
+mod tests;

@@ -1,8 +1,7 @@
-use Rattle.std.proofs.Common.{◌≡◌, ℕ, ◌+◌, ◌-◌, ◌*◌, ◌/◌, ◌%◌, ◌^◌, ◌<◌, ◌≤◌, false, get_or, bit_and, sym, ap, ◌∙◌, arith}
+use Rattle.std.proofs.Common.{◌+◌, ◌-◌, ◌*◌, ◌/◌, ◌%◌, ◌^◌, get_or, bit_and, sym, ap, ◌∙◌, arith}
 use Rattle.std.proofs.lemmas.Nat.{and_le_l}
 use Rattle.std.proofs.lemmas.Nat.Bits.{ones_shl}
-use Rattle.sources.specs.Bits.{bit_in}
-use Rattle.sources.proofs.BitLemmas.{IsLeastBit-masked, AreZeroFrom-past, zeroes-masked, some-later, none-later, masked}
+use Rattle.sources.proofs.BitLemmas.{IsLeastBit-masked, AreZeroFrom-past, zeroes-masked, some-later, none-later}
 use Rattle.sources.proofs.bit_row.least_bit.Goals as goal
 
 pub returns-then-index-words-clause-none : goal.returns-then-index-words-clause-none

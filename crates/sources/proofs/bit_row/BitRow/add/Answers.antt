@@ -1,4 +1,4 @@
-use Rattle.std.proofs.Common.{◌≡◌, ◌<◌, ◌/◌, length, get_or, sym, ap, ◌∙◌, arith}
+use Rattle.std.proofs.Common.{◌≡◌, ◌/◌, length, sym, ap, ◌∙◌, arith}
 use Rattle.std.proofs.lemmas.List.{get_or_read}
 use Rattle.sources.proofs.BitLemmas.{length-set_of, within_words, HoldsSet-add, set_of-add}
 use Rattle.sources.proofs.bit_row.BitRow.add.Goals as goal

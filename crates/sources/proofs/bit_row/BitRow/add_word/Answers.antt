@@ -1,7 +1,7 @@
-use Rattle.std.proofs.Common.{◌≡◌, ℕ, ◌<◌, length, get_or, sym, ap, ◌∙◌, arith}
+use Rattle.std.proofs.Common.{◌≡◌, ℕ, ◌<◌, length, sym, ap, ◌∙◌, arith}
 use Rattle.std.proofs.lemmas.List.{get_or_read}
 use Rattle.sources.specs.Bits.{word_count, IsInWord}
-use Rattle.sources.proofs.BitLemmas.{length-set_of, HoldsSet-with_ones, members-with_ones, with_ones}
+use Rattle.sources.proofs.BitLemmas.{length-set_of, HoldsSet-with_ones, members-with_ones}
 use Rattle.sources.proofs.bit_row.BitRow.add_word.Goals as goal
 
 pub index-held-requires : goal.index-held-requires

@@ -1,6 +1,6 @@
-use Rattle.std.proofs.Common.{◌≡◌, length, replicate, false, sym, ◌∙◌, ap, arith, refl}
+use Rattle.std.proofs.Common.{◌≡◌, length, replicate, false, sym, ◌∙◌, ap, arith}
 use Rattle.std.specs.Vec.{vec_len}
-use Rattle.sources.specs.Bits.{HoldsSet, set_of}
+use Rattle.sources.specs.Bits.{set_of}
 use Rattle.sources.proofs.BitLemmas.{HoldsSet-zeroes, set_of-zeroes, length-set_of}
 use Rattle.sources.proofs.bit_row.BitRow.clear.Goals as goal
 

@@ -1,4 +1,4 @@
-use Rattle.std.proofs.Common.{◌≡◌, ◌<◌, length, arith}
+use Rattle.std.proofs.Common.{arith}
 use Rattle.sources.proofs.BitLemmas.{bit_below, IsLeastFrom-bit, IsEmptyFrom-bits, where_none}
 use Rattle.sources.proofs.bit_row.BitRow.next_from.Goals as goal
 
