@@ -1,6 +1,6 @@
 //! The rows of a store.
 ghost use Rattle.std.specs.Prelude.{◌≡◌, ◌<◌, ◌≤◌, ◌↔◌, [], IfOk, OnOk, OnErr, IsSome, length, slice_get};
-ghost use Rattle.std.specs.List.{IsDistinct};
+ghost use Rattle.std.specs.List.{All, IsDistinct};
 ghost use Rattle.std.specs.Option.{option_copied};
 ghost use Rattle.values.specs.Evaluation.{is_same};
 ghost use Rattle.store_fields.specs.Edits.{keys, place_of, edited, inserted, removed, moved, field_set, edit, with_rows, rows_after, verdicts_of};
@@ -143,6 +143,7 @@ impl Rows {
     pub fn count(&self) -> u32
         ensures count { result ≡ length self.now.rows }
         ensures few { length self.now.rows ≤ self.now.max }
+        ensures wide { All (λ row. length row.fields ≡ self.now.width) self.now.rows }
         ensures distinct { IsDistinct is_same (keys self.now.rows) }
     {
         let _max = self.max;
