@@ -37,7 +37,7 @@ use Rattle.script_meaning.proofs.KeptNamed.{IsNamed, Declares, names_are_named, 
 
 -- ---- in a longer table
 
-abbrev StartsHaveTexts : ℕ → Named → Type 0
+abbrev pub StartsHaveTexts : ℕ → Named → Type 0
 StartsHaveTexts n (a_store id fields starts) = list_all (code_has_text n) starts ≡ true
 StartsHaveTexts n _ = Unit {0}
 
@@ -87,12 +87,12 @@ set_has p (x ∷ values) (suc i) v all has = let both = and_parts (p x) (list_al
 
 -- ---- the state
 
-record Have (n : ℕ) (phases : List (List (List ScriptOp))) (named : Named) (key : Option Code) (values : List Code) (literal : Code) : Type 0 where
-  ops : EachOp (HasTexts n) phases
-  starts : StartsHaveTexts n named
-  key_has : KeyHasText n key
-  values_have : list_all (code_has_text n) values ≡ true
-  literal_has : code_has_text n literal ≡ true
+pub record Have (n : ℕ) (phases : List (List (List ScriptOp))) (named : Named) (key : Option Code) (values : List Code) (literal : Code) : Type 0 where
+  pub ops : EachOp (HasTexts n) phases
+  pub starts : StartsHaveTexts n named
+  pub key_has : KeyHasText n key
+  pub values_have : list_all (code_has_text n) values ≡ true
+  pub literal_has : code_has_text n literal ≡ true
 
 have_longer : (n m : ℕ) (phases : List (List (List ScriptOp))) (named : Named) (key : Option Code) (values : List Code) (literal : Code) → n ≤ m → Have n phases named key values literal → Have m phases named key values literal
 have_longer n m phases named key values literal within h = record {
@@ -104,10 +104,10 @@ have_longer n m phases named key values literal within h = record {
 }
 
 module _ (component : Component) (is_kept : IsKept component) where
-  record Fine (a : State) : Type 0 where
-    names : a.names ≡ names_of component.items
-    longer : length component.texts ≤ length a.texts
-    have : Have (length a.texts) a.phases a.named a.key a.values a.literal
+  pub record Fine (a : State) : Type 0 where
+    pub names : a.names ≡ names_of component.items
+    pub longer : length component.texts ≤ length a.texts
+    pub have : Have (length a.texts) a.phases a.named a.key a.values a.literal
 
   starts_have : (n : ℕ) (what : Named) → length component.texts ≤ n → IsNamed (members_of component.items) (length component.texts) what → StartsHaveTexts n what
   starts_have n (a_store id fields starts) within h = codes_longer (length component.texts) n within starts h.words
@@ -239,7 +239,7 @@ module _ (component : Component) (is_kept : IsKept component) where
 
   -- ---- whole texts
 
-  keeps : (bytes : List ℕ) → Keeps table (semantics bytes) Fine
+  pub keeps : (bytes : List ℕ) → Keeps table (semantics bytes) Fine
   keeps bytes = record {
     terminal = λ w a b x stands took h.
         let is = accepted bytes w a x.token x.next b took in
@@ -247,7 +247,7 @@ module _ (component : Component) (is_kept : IsKept component) where
     action = perform_fine;
   }
 
-  first : Fine (start_for component.texts (names_of component.items))
+  pub first : Fine (start_for component.texts (names_of component.items))
   first = record {
     names = refl;
     longer = omega arith;

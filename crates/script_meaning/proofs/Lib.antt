@@ -11,3 +11,5 @@ pub mod KeptOps
 pub mod KeptFew
 pub mod KeptNamed
 pub mod KeptWords
+pub mod KeptPaths
+pub mod KeptAll

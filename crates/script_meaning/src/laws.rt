@@ -6,7 +6,7 @@ ghost use Rattle.component_items.specs.declared.refusal.Refusal.{Refusal};
 ghost use Rattle.script_items.specs.declared.operation.ScriptOp.{ScriptOp};
 ghost use Rattle.script_items.specs.Script.{IsScript as IsShort};
 ghost use Rattle.component_items.specs.Kept.{IsKept};
-ghost use Rattle.script_items.specs.KeptFor.{AllOps, HasTexts, NamesMembers};
+ghost use Rattle.script_items.specs.KeptFor.{AllOps, HasTexts, NamesMembers, IsKeptFor};
 ghost use Rattle.script_items.specs.Members.{members_of};
 ghost use Rattle.script_meaning.specs.Script.{IsScript, IsNoScript};
 
@@ -44,4 +44,14 @@ pub fn scripts_are_short()
 /// Each text of an operation is in the table that the component has with the script.
 pub fn words_are_in_the_table()
     ensures { (component : Component) (first_line : ℕ) (bytes : List ℕ) (script : List (List (List ScriptOp))) (texts : List (List ℕ)) → IsKept component → IsScript component first_line bytes script texts → AllOps (HasTexts (length texts)) script }
+{}
+
+/// Each operation names what there is outside of the `if`s and `each`es of the component.
+pub fn names_are_members()
+    ensures { (component : Component) (first_line : ℕ) (bytes : List ℕ) (script : List (List (List ScriptOp))) (texts : List (List ℕ)) → IsKept component → IsScript component first_line bytes script texts → AllOps (NamesMembers (members_of component.items)) script }
+{}
+
+/// All that a script keeps for its component, together.
+pub fn scripts_are_kept()
+    ensures { (component : Component) (first_line : ℕ) (bytes : List ℕ) (script : List (List (List ScriptOp))) (texts : List (List ℕ)) → IsKept component → IsScript component first_line bytes script texts → IsKeptFor component script texts }
 {}

@@ -10,8 +10,9 @@ pub use input::{
     accepted_inputs, input_never_both, input_one_of_both, input_one_refusal, one_input,
     refused_inputs,
 };
-pub use laws::{never_both, one_of_both, one_refusal, one_script, scripts_are_short, texts_only_grow,
-    words_are_in_the_table,
+pub use laws::{
+    names_are_members, never_both, one_of_both, one_refusal, one_script, scripts_are_kept,
+    scripts_are_short, texts_only_grow, words_are_in_the_table,
 };
 pub use worked::{
     accepted_scripts, fields_of_rows, names_in_paths, numbers_and_tokens, phases_and_lanes,
