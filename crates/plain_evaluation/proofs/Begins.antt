@@ -14,7 +14,7 @@ use Rattle.component_items.specs.declared.component.Item.TheViews.{roll-Item}
 use Rattle.component_items.specs.declared.component.Item.TheFolds.{fold-roll-Item, map-Item, ind-Item}
 use Rattle.component_items.specs.Ids.{attr_ids, ids_step, item_ids, ids_in, owners_step, item_owners, owners_in}
 use Rattle.component_items.specs.Kept.{IsKept}
-use Rattle.plain_evaluation.specs.Held.{Holding, nothing, rows, Held, value_in, rows_in, arrived_in, first_attr, first_step, item_first, first_held}
+use Rattle.plain_evaluation.specs.Held.{Holding, nothing, stored, no_rows, Held, value_in, rows_in, arrived_in, first_attr, first_step, item_first, first_held}
 use Rattle.plain_evaluation.specs.Begins.{all_begin, store_begins, begins_step, item_begins, Begins}
 use Rattle.plain_evaluation.proofs.Places.{and_both, code_itself}
 
@@ -126,11 +126,11 @@ module _ (held : Held) where
   by_form (level.Store id name max fields starts) = (
     (let a = length-range_with_len id (2 + length fields) in let b = length-map fields (λ (field : ℕ). nothing) in omega arith),
     λ has live.
-        (let both : HasAll held.holdings (id ∷ suc id ∷ range_with_len (2 + id) (length fields)) (rows max (length fields) [] ∷ nothing ∷ map (λ field. nothing) fields) = subst (λ ids. HasAll held.holdings ids (rows max (length fields) [] ∷ nothing ∷ map (λ field. nothing) fields)) (store_ids id (length fields)) has in
+        (let both : HasAll held.holdings (id ∷ suc id ∷ range_with_len (2 + id) (length fields)) (stored (no_rows max (length fields)) ∷ nothing ∷ map (λ field. nothing) fields) = subst (λ ids. HasAll held.holdings ids (stored (no_rows max (length fields)) ∷ nothing ∷ map (λ field. nothing) fields)) (store_ids id (length fields)) has in
         ap (store_begins max (length fields)) both.0 ∙ same max (length fields)),
   )
     where
-      same : (m w : ℕ) → store_begins m w (rows m w []) ≡ true
+      same : (m w : ℕ) → store_begins m w (stored (no_rows m w)) ≡ true
       same m w = and_both ((m == m) && (w == w)) true (and_both (m == m) (w == w) (grind arith) (grind arith)) refl
   by_form (level.Cleanup text) = (refl, λ has live. refl)
   by_form (level.Area id name owner known) = let rest = block known in (ap suc rest.0, λ has live. and_both _ _ live.0 (rest.1 has.1 live.1))

@@ -10,7 +10,7 @@ use Rattle.component_items.specs.declared.component.Item.TheOpen.{Item-F}
 use Rattle.component_items.specs.declared.component.Item.TheViews.{roll-Item}
 use Rattle.component_items.specs.declared.component.Item.TheFolds.{fold-roll-Item, map-Item, ind-Item}
 use Rattle.component_items.specs.Counts.{maximum_in}
-use Rattle.plain_evaluation.specs.Held.{Holding, nothing, value, rows, arrived, Held, holding_of, is_live, rows_in}
+use Rattle.plain_evaluation.specs.Held.{Holding, nothing, value, stored, arrived, Held, holding_of, is_live, rows_in}
 use Rattle.plain_evaluation.specs.Written.{state_of}
 use Rattle.plain_evaluation.specs.Begins.{all_begin, store_begins, begins_step, item_begins, Begins}
 use Rattle.plain_evaluation.specs.Fits.{keys_differ, rows_fit, all_fit, fits_step, item_fits, store_fits, RowsFit, holding_fits, store_held, Fits}
@@ -71,7 +71,7 @@ none_fit max width = grind arith
 holding_rows : (max width : ℕ) (holding : Holding) → holding_fits max width holding ≡ true → rows_fit max width (rows_in holding) ≡ true
 holding_rows max width nothing fits = none_fit max width
 holding_rows max width (value code) fits = none_fit max width
-holding_rows max width (rows own_max own_width list) fits = (and_cases ((own_max == max) && (own_width == width)) (rows_fit max width list) fits).1
+holding_rows max width (stored store) fits = (and_cases ((store.max == max) && (store.width == width)) (rows_fit max width store.rows) fits).1
 holding_rows max width (arrived key) fits = none_fit max width
 
 -- held state that fits has rows that fit
@@ -87,11 +87,13 @@ rows_of_held component held fits = record {
 begun_fits : (max width : ℕ) (holding : Holding) → store_begins max width holding ≡ true → holding_fits max width holding ≡ true
 begun_fits max width nothing begins = refl
 begun_fits max width (value code) begins = refl
-begun_fits max width (rows own_max own_width []) begins = and_both _ _ (and_cases ((own_max == max) && (own_width == width)) true begins).0 (none_fit max width)
-begun_fits max width (rows own_max own_width (row ∷ list)) begins =
-    let none = (and_cases ((own_max == max) && (own_width == width)) (length (row ∷ list) == 0) begins).1 in
-    let no : length (row ∷ list) ≡ 0 = eqb-true (length (row ∷ list)) 0 none in
-    absurd (omega arith)
+begun_fits max width (stored store) begins =
+    let both = and_cases ((store.max == max) && (store.width == width)) (length store.rows == 0) begins in
+    and_both _ _ both.0 (at store.rows both.1)
+  where
+    at : (list : List Row) → (length list == 0) ≡ true → rows_fit max width list ≡ true
+    at [] none = none_fit max width
+    at (row ∷ list) none = let no : length (row ∷ list) ≡ 0 = eqb-true (length (row ∷ list)) 0 none in absurd (omega arith)
 begun_fits max width (arrived key) begins = refl
 
 module _ (held : Held) where

@@ -7,7 +7,7 @@ use Rattle.component_items.specs.declared.component.Item.{Item}
 use Rattle.component_items.specs.declared.component.Item.TheOpen as level
 use Rattle.component_items.specs.declared.component.Item.TheOpen.{Item-F}
 use Rattle.component_items.specs.declared.component.Item.TheFolds.{fold-Item}
-use Rattle.plain_evaluation.specs.Held.{Holding, nothing, value, rows, arrived, Held, holding_of, is_live, value_held, rows_held, arrived_held}
+use Rattle.plain_evaluation.specs.Held.{Holding, nothing, value, stored, arrived, Held, holding_of, is_live, value_held, rows_held, arrived_held}
 
 abbrev pub all_begin : List Bool → Bool
 all_begin items = list_all (λ b. b) items
@@ -16,7 +16,7 @@ all_begin items = list_all (λ b. b) items
 abbrev pub store_begins : ℕ → ℕ → Holding → Bool
 store_begins max width nothing = false
 store_begins max width (value code) = false
-store_begins max width (rows own_max own_width list) = (own_max == max) && (own_width == width) && (length list == 0)
+store_begins max width (stored store) = (store.max == max) && (store.width == width) && (length store.rows == 0)
 store_begins max width (arrived key) = false
 
 -- each signal has its start, each store its maximum and its count of fields and no rows, and each area is live

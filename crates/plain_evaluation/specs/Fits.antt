@@ -9,7 +9,7 @@ use Rattle.component_items.specs.declared.component.Item.TheOpen as level
 use Rattle.component_items.specs.declared.component.Item.TheOpen.{Item-F}
 use Rattle.component_items.specs.declared.component.Item.TheFolds.{fold-Item}
 use Rattle.component_items.specs.Counts.{maximum_in}
-use Rattle.plain_evaluation.specs.Held.{Holding, nothing, value, rows, arrived, Held, holding_of, rows_held}
+use Rattle.plain_evaluation.specs.Held.{Holding, nothing, value, stored, arrived, Held, holding_of, rows_held}
 use Rattle.plain_evaluation.specs.Written.{State}
 
 abbrev pub keys_differ : List Row → Bool
@@ -59,7 +59,7 @@ pub record RowsFit (component : Component) (state : State) : Type 0 where
 abbrev pub holding_fits : ℕ → ℕ → Holding → Bool
 holding_fits max width nothing = true
 holding_fits max width (value code) = true
-holding_fits max width (rows own_max own_width list) = (own_max == max) && (own_width == width) && rows_fit max width list
+holding_fits max width (stored store) = (store.max == max) && (store.width == width) && rows_fit max width store.rows
 holding_fits max width (arrived key) = true
 
 abbrev pub store_held : Held → ℕ → ℕ → ℕ → Bool

@@ -4,6 +4,7 @@ use Rattle.std.specs.List.{flat_map}
 use Rattle.values.specs.declared.code.Code.{Code}
 use Rattle.values.specs.declared.code.Code.TheVariants.{Empty}
 use Rattle.store_fields.specs.declared.row.Row.{Row}
+use Rattle.store_fields.specs.Edits.{KeyedRows}
 use Rattle.component_items.specs.declared.component.Attr.{Attr}
 use Rattle.component_items.specs.declared.component.Attr.TheVariants as attr
 use Rattle.component_items.specs.declared.component.Component.{Component}
@@ -19,8 +20,8 @@ pub data Holding : Type 0 where
   nothing : Holding
   -- a signal: its value
   value : Code → Holding
-  -- a store: how many rows it may hold, how many fields each has, and the rows
-  rows : ℕ → ℕ → List Row → Holding
+  -- a store: its rows, how many there may be, and how many fields each has
+  stored : KeyedRows → Holding
   -- a load: the key that arrived, if one did
   arrived : Option Code → Holding
 
@@ -38,19 +39,19 @@ is_live held owner = slice_index_or held.live owner false
 abbrev pub value_in : Holding → Code
 value_in nothing = Empty
 value_in (value code) = code
-value_in (rows max width list) = Empty
+value_in (stored store) = Empty
 value_in (arrived key) = Empty
 
 abbrev pub rows_in : Holding → List Row
 rows_in nothing = []
 rows_in (value code) = []
-rows_in (rows max width list) = list
+rows_in (stored store) = store.rows
 rows_in (arrived key) = []
 
 abbrev pub arrived_in : Holding → Option Code
 arrived_in nothing = None
 arrived_in (value code) = None
-arrived_in (rows max width list) = None
+arrived_in (stored store) = None
 arrived_in (arrived key) = key
 
 abbrev pub value_held : Held → ℕ → Code
@@ -61,6 +62,9 @@ rows_held held id = rows_in (holding_of held id)
 
 abbrev pub arrived_held : Held → ℕ → Option Code
 arrived_held held id = arrived_in (holding_of held id)
+
+abbrev pub no_rows : ℕ → ℕ → KeyedRows
+no_rows max width = record { rows = []; max = max; width = width }
 
 -- ---- at the start: signals have their start, stores no rows, no key has arrived, and all owners are live
 
@@ -76,7 +80,7 @@ first_step (level.Memo id name expr) = nothing ∷ []
 first_step (level.Effect id name expr) = nothing ∷ []
 first_step (level.Resource id name after keys values) = nothing ∷ []
 first_step (level.Load id name resource key) = arrived None ∷ nothing ∷ []
-first_step (level.Store id name max fields starts) = rows max (length fields) [] ∷ nothing ∷ map (λ field. nothing) fields
+first_step (level.Store id name max fields starts) = stored (no_rows max (length fields)) ∷ nothing ∷ map (λ field. nothing) fields
 first_step (level.Cleanup text) = []
 first_step (level.Area id name owner items) = nothing ∷ flat_map (λ one. one) items
 first_step (level.If id cond items) = nothing ∷ flat_map (λ one. one) items

@@ -5,13 +5,18 @@ use Rattle.values.specs.declared.code.Code.TheVariants.{Number, Word}
 use Rattle.values.specs.declared.code.Op.TheVariants as op
 use Rattle.values.specs.declared.expr.Expr.TheVariants.{Lit, Read, Binary}
 use Rattle.store_fields.specs.declared.row.Row.{Row}
+use Rattle.store_fields.specs.Edits.{KeyedRows}
 use Rattle.component_items.specs.declared.component.Attr.TheVariants as attr
 use Rattle.component_items.specs.declared.component.Component.{Component}
 use Rattle.component_items.specs.declared.component.Item.TheVariants as item
-use Rattle.plain_evaluation.specs.Held.{Held, nothing, value, rows, arrived}
+use Rattle.plain_evaluation.specs.Held.{Held, nothing, value, stored, arrived}
 
 abbrev pub store_row : Code → List Code → Row
 store_row key fields = record { key = key; fields = fields }
+
+-- the most rows, the count of fields, and the rows
+abbrev pub rows_of : ℕ → ℕ → List Row → KeyedRows
+rows_of max width list = record { rows = list; max = max; width = width }
 
 abbrev pub number : ℕ → Code
 number n = Number (pos n)
@@ -72,7 +77,7 @@ titles = record {
 }
 
 abbrev pub titles_held : Held
-titles_held = record { holdings = rows 4 1 (store_row (number 3) (Word 5 ∷ []) ∷ store_row (number 2) (Word 6 ∷ []) ∷ []) ∷ nothing ∷ nothing ∷ nothing ∷ nothing ∷ []; live = true ∷ [] }
+titles_held = record { holdings = stored (rows_of 4 1 (store_row (number 3) (Word 5 ∷ []) ∷ store_row (number 2) (Word 6 ∷ []) ∷ [])) ∷ nothing ∷ nothing ∷ nothing ∷ nothing ∷ []; live = true ∷ [] }
 
 -- component 1|area side { signal on = 0 store s max 2 { t = "" } if on { each s { if row.key == 2 { <b>{row.t}</b> } } } }
 abbrev pub chosen : Component
@@ -83,7 +88,7 @@ chosen = record {
 
 -- with the signal, and with two rows
 abbrev pub chosen_held : ℕ → Held
-chosen_held on = record { holdings = nothing ∷ value (number on) ∷ rows 2 1 (store_row (number 1) (Word 6 ∷ []) ∷ store_row (number 2) (Word 7 ∷ []) ∷ []) ∷ nothing ∷ nothing ∷ nothing ∷ nothing ∷ nothing ∷ nothing ∷ []; live = true ∷ true ∷ [] }
+chosen_held on = record { holdings = nothing ∷ value (number on) ∷ stored (rows_of 2 1 (store_row (number 1) (Word 6 ∷ []) ∷ store_row (number 2) (Word 7 ∷ []) ∷ [])) ∷ nothing ∷ nothing ∷ nothing ∷ nothing ∷ nothing ∷ nothing ∷ []; live = true ∷ true ∷ [] }
 
 -- component 1|resource user after 2 { 1 => "Ann" }|signal id = 1|load who = user(id)|<p>{who}</p>
 abbrev pub who : Component
@@ -127,6 +132,6 @@ todos = record {
 -- after todos 1 "Milk" and 2 "Bread" (done) were inserted, two were done, and the user was Bob
 abbrev pub todos_held : Held
 todos_held = record {
-  holdings = value (Word 26) ∷ value (number 2) ∷ rows 50 2 (store_row (number 1) (Word 24 ∷ number 0 ∷ []) ∷ store_row (number 2) (Word 25 ∷ number 1 ∷ []) ∷ []) ∷ nothing ∷ nothing ∷ nothing ∷ nothing ∷ nothing ∷ nothing ∷ nothing ∷ nothing ∷ nothing ∷ nothing ∷ nothing ∷ nothing ∷ value (Word 21) ∷ nothing ∷ [];
+  holdings = value (Word 26) ∷ value (number 2) ∷ stored (rows_of 50 2 (store_row (number 1) (Word 24 ∷ number 0 ∷ []) ∷ store_row (number 2) (Word 25 ∷ number 1 ∷ []) ∷ [])) ∷ nothing ∷ nothing ∷ nothing ∷ nothing ∷ nothing ∷ nothing ∷ nothing ∷ nothing ∷ nothing ∷ nothing ∷ nothing ∷ nothing ∷ value (Word 21) ∷ nothing ∷ [];
   live = true ∷ true ∷ [];
 }
