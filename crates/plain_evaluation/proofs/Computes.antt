@@ -1,22 +1,10 @@
 -- The equations by which worked rows compute.
-use Rattle.std.proofs.Common.{◌≡◌, ℕ, List, [], ◌∷◌, ap, arith}
+use Rattle.std.proofs.Common.{◌≡◌, [], ◌∷◌, arith}
 use Rattle.std.specs.Fmt.{decimal}
 use Rattle.std.proofs.lemmas.Fmt.{decimal_digit}
-use Rattle.values.specs.declared.code.Code.{Code}
-use Rattle.values.specs.declared.expr.Expr.{Expr}
 use Rattle.values.proofs.Evaluation.{value_of-Lit, value_of-Read, value_of-Binary}
-use Rattle.component_items.specs.declared.component.Item.TheOpen as level
-use Rattle.component_items.specs.declared.component.Item.TheOpen.{Item-F}
-use Rattle.component_items.specs.declared.component.Item.TheVariants.{Load, Resource}
-use Rattle.component_items.specs.declared.component.Item.TheFolds.{fold-Item}
 use Rattle.component_items.specs.declared.component.Item.TheViews.{outs-Signal, outs-Memo, outs-Resource, outs-Load, outs-Store, outs-Area, outs-Element}
-use Rattle.component_items.proofs.FoldLemmas.{fold-Signal, fold-Memo, fold-Resource, fold-Cleanup, fold-Load, fold-Store, fold-Area, fold-If, fold-Each, fold-Element, fold-Text, fold-Shown, at-Signal, at-Memo, at-Store, at-Area, at-If, at-Each, at-Element, at-Shown, at-Text, at-Cleanup}
-
-pub at-Load : {X Y : Type 0} (step : Item-F (X → Y) → X → Y) (id name resource : ℕ) (key : Expr) (x : X) → fold-Item (X → Y) step (Load id name resource key) x ≡ step (level.Load id name resource key) x
-at-Load step id name resource key x = ap (λ f. f x) (fold-Load step id name resource key)
-
-pub at-Resource : {X Y : Type 0} (step : Item-F (X → Y) → X → Y) (id name after : ℕ) (keys values : List Code) (x : X) → fold-Item (X → Y) step (Resource id name after keys values) x ≡ step (level.Resource id name after keys values) x
-at-Resource step id name after keys values x = ap (λ f. f x) (fold-Resource step id name after keys values)
+use Rattle.component_items.proofs.FoldLemmas.{fold-Signal, fold-Memo, fold-Resource, fold-Cleanup, fold-Load, fold-Store, fold-Area, fold-If, fold-Each, fold-Element, fold-Text, fold-Shown, at-Signal, at-Memo, at-Resource, at-Load, at-Store, at-Area, at-If, at-Each, at-Element, at-Shown, at-Text, at-Cleanup}
 
 pub one : decimal 1 ≡ 49 ∷ []
 one = decimal_digit 1 (omega arith)

@@ -4,6 +4,7 @@ use Rattle.std.specs.List.{list_all, flat_map, sum, sum_by}
 use Rattle.std.proofs.lemmas.Bool.{eqb-true}
 use Rattle.std.proofs.lemmas.List.Sums.{sum_by-cons}
 use Rattle.values.specs.declared.code.Code.{Code}
+use Rattle.values.specs.declared.limits.TheConstants.{MOST_NODES}
 use Rattle.store_fields.specs.declared.row.Row.{Row}
 use Rattle.component_items.specs.declared.component.Attr.{Attr}
 use Rattle.component_items.specs.declared.component.Attr.TheVariants as attr
@@ -136,7 +137,7 @@ module _ (state : State) (pairs : ℕ → List (Code × Code)) (most : ℕ → �
       omega arith
 
 -- the text is no longer
-pub few_written : (component : Component) (state : State) → IsKept component → RowsFit component state → length (written_in component state) ≤ 4096
+pub few_written : (component : Component) (state : State) → IsKept component → RowsFit component state → length (written_in component state) ≤ MOST_NODES
 few_written component state kept fits =
     let le = at (state.live 0) in
     let few = kept.few_nodes in

@@ -8,10 +8,9 @@ use Rattle.html_out.specs.Shown.{escaped, text_at, shown}
 use Rattle.component_items.specs.declared.component.Attr.{Attr}
 use Rattle.component_items.specs.declared.component.Item.{Item}
 use Rattle.component_items.specs.declared.component.Item.TheVariants.{Signal, Memo, Effect, Resource, Load, Store, Cleanup, Area, If, Each, Element, Text, Shown}
-use Rattle.component_items.proofs.FoldLemmas.{at-Signal, at-Memo, at-Effect, at-Store, at-Area, at-If, at-Each, at-Element, at-Shown, at-Text, at-Cleanup}
+use Rattle.component_items.proofs.FoldLemmas.{at-Load, at-Resource, at-Signal, at-Memo, at-Effect, at-Store, at-Area, at-If, at-Each, at-Element, at-Shown, at-Text, at-Cleanup}
 use Rattle.plain_evaluation.specs.Place.{place_at}
 use Rattle.plain_evaluation.specs.Page.{View, joined, opening, closing, page_step, item_bytes, items_bytes}
-use Rattle.plain_evaluation.proofs.Computes.{at-Load, at-Resource}
 
 pub joined_items : (view : View) (items : List Item) (key : Option Code) → joined (map (item_bytes view) items) key ≡ items_bytes view items key
 joined_items view [] key = refl

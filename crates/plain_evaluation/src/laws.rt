@@ -1,5 +1,6 @@
 //! Laws of the definitions. Each is the contract of a function that does nothing.
 ghost use Rattle.std.specs.Prelude.{◌≡◌, ◌≤◌, length};
+ghost use Rattle.values.specs.declared.limits.TheConstants.{MOST_NODES};
 ghost use Rattle.component_items.specs.declared.component.Component.{Component as ComponentValue};
 ghost use Rattle.component_items.specs.Kept.{IsKept};
 ghost use Rattle.plain_evaluation.specs.Begins.{Begins};
@@ -28,7 +29,7 @@ pub fn reads_stand_before()
 
 /// A component writes out no more places than a plan has nodes.
 pub fn places_are_few()
-    ensures { (component : ComponentValue) (state : State) → IsKept component → RowsFit component state → length (written_in component state) ≤ 4096 }
+    ensures { (component : ComponentValue) (state : State) → IsKept component → RowsFit component state → length (written_in component state) ≤ MOST_NODES }
 {}
 
 /// The first held state is as the text gives it.

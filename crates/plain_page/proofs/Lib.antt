@@ -1,3 +1,4 @@
 pub mod StartLemmas
 pub mod SameValues
 pub mod SamePage
+pub mod VoidKept

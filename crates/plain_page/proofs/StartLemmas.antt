@@ -7,8 +7,7 @@ use Rattle.values.specs.Evaluation.{value_of}
 use Rattle.component_items.specs.declared.component.Attr.{Attr}
 use Rattle.component_items.specs.declared.component.Item.{Item}
 use Rattle.component_items.specs.declared.component.Item.TheVariants.{Signal, Memo, Effect, Resource, Load, Store, Cleanup, Area, If, Each, Element, Text, Shown}
-use Rattle.component_items.proofs.FoldLemmas.{at-Signal, at-Memo, at-Effect, at-Store, at-Area, at-If, at-Each, at-Element, at-Shown, at-Text, at-Cleanup}
-use Rattle.plain_evaluation.proofs.Computes.{at-Load, at-Resource}
+use Rattle.component_items.proofs.FoldLemmas.{at-Load, at-Resource, at-Signal, at-Memo, at-Effect, at-Store, at-Area, at-If, at-Each, at-Element, at-Shown, at-Text, at-Cleanup}
 use Rattle.plain_page.specs.Start.{ById, code_at, with_id, after_attrs, in_order, start_step, after_item, after_items}
 
 -- a place that is added with no value changes no id's value

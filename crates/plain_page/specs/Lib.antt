@@ -1,2 +1,3 @@
 pub mod Start
 pub mod Buffer
+pub mod Worked

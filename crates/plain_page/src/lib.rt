@@ -6,3 +6,6 @@ mod evaluation;
 mod page;
 
 pub use page::page_bytes;
+
+#[cfg(test)]
+mod tests;

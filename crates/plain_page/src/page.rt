@@ -1,12 +1,11 @@
 //! The page of a component where nothing has happened yet.
 ghost use Rattle.std.specs.Prelude.{◌≡◌, ◌++◌, codes, None, IfOk, OnOk};
 ghost use Rattle.std.specs.List.{flat_map};
-ghost use Rattle.component_items.specs.Kept.{IsKept};
 ghost use Rattle.html_out.specs.Shown.{text_at, shown};
 ghost use Rattle.plain_evaluation.specs.Held.{first_held};
 ghost use Rattle.plain_evaluation.specs.Page.{attr_bytes, opening, closing, item_bytes, items_bytes, page_of};
 ghost use Rattle.plain_page.specs.Buffer.{bytes_of};
-ghost use Rattle.plain_page.specs.Start.{code_at, view_by_id};
+ghost use Rattle.plain_page.specs.Start.{code_at, none_by_id, after_items, view_by_id};
 
 use crate::buffer::Buffer;
 use crate::evaluation::{get, values_of};
@@ -17,13 +16,19 @@ use values::{Code, NoMemory, Texts};
 /// The bytes of the component's page in its first state: signals have their starts, stores no rows, nothing
 /// has arrived for a load, and all areas are live (`docs/SEMANTICS.md`, "The page").
 pub fn page_bytes(alloc: Global, component: &Component) -> Result<Vec<u8>, NoMemory>
-    requires { IsKept component.now }
     ensures { IfOk result (λ page. page.items ≡ page_of component.now (first_held component.now)) }
 {
-    let items = component.items.as_slice();
+    let items = component.items();
+    bytes_by_id(alloc, component.texts(), items)
+}
+
+/// The bytes of items with these texts, where nothing has happened yet.
+pub(crate) fn bytes_by_id(alloc: Global, texts: &Texts, items: &[Item]) -> Result<Vec<u8>, NoMemory>
+    ensures { IfOk result (λ page. page.items ≡ items_bytes (view_by_id texts.now (after_items items.now none_by_id)) items.now None) }
+{
     let values = values_of(alloc, items)?;
     let writer = Writer {
-        texts: &component.texts,
+        texts,
         values: values.as_slice(),
     };
     let mut page = Buffer::new(alloc);

@@ -7,5 +7,5 @@ use Rattle.plain_page.proofs.page.page_bytes.Goals as goal
 pub returns : goal.returns
 returns c =
     let component = c.args.component.now in
-    let page = start_page component (first_held component) (first_begins component c.requires) in
-    grind (arith, page, c.in_ok-items.ensures, c.in_ok-values.ensures)
+    let page = start_page component (first_held component) (first_begins component c.items-items.ensures.kept) in
+    grind (arith, page)
