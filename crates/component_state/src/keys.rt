@@ -1,28 +1,35 @@
 //! The keys of a resource.
 
-ghost use Rattle.std.specs.Prelude.{◌≡◌, false, [], ◌∷◌, ◌++◌, IfOk, OnOk};
+ghost use Rattle.std.specs.Prelude.{◌≡◌, [], ◌∷◌, ◌++◌, OnOk};
 ghost use Rattle.std.specs.List.{list_any};
 ghost use Rattle.values.specs.Evaluation.{is_same};
 
-use indexmap::IndexSet;
 use std::alloc::{AllocError, Global};
+use std::collections::HashSet;
 use std::marker::Model;
-use values::{Code, Codes};
+use values::Code;
 
-/// Distinct keys, in text order. Whether one is among them is found at once, however many there are. Contracts see
-/// the list of the keys.
+/// Keys, in text order. Whether one is among them is found at once, however many there are. Contracts see the list
+/// of the keys.
 #[derive(Drop)]
 pub struct Keys {
-    keys: IndexSet<Code>,
+    keys: Vec<Code>,
+    found: HashSet<Code>,
 }
 
 impl Model for Keys {
-    ghost use Rattle.std.specs.Prelude.{List};
+    ghost use Rattle.std.specs.Prelude.{◌≡◌, List};
+    ghost use Rattle.std.specs.List.{list_any};
+    ghost use Rattle.std.specs.HashSet.{contains};
     ghost use Rattle.values.specs.declared.code.Code.{Code};
+    ghost use Rattle.values.specs.contracts.code.CodePartialEq.TheImpl as code;
+    ghost use Rattle.values.specs.Evaluation.{is_same};
 
     ghost Value = { List Code };
 
-    ghost view = { λ k. k.keys.keys };
+    ghost view = { λ k. k.keys.items };
+
+    ghost invariant = { λ k. (key : Code) → contains (code.ghosts).eq k.found key ≡ list_any (is_same key) k.keys.items };
 }
 
 impl Keys {
@@ -31,7 +38,8 @@ impl Keys {
         ensures { result ≡ [] }
     {
         Keys {
-            keys: IndexSet::new(alloc),
+            keys: Vec::new(alloc),
+            found: HashSet::new(alloc),
         }
     }
 
@@ -39,23 +47,25 @@ impl Keys {
     pub fn contains(&self, key: Code) -> bool
         ensures { result ≡ list_any (is_same key) self.now }
     {
-        self.keys.contains(&key)
+        self.found.contains(&key)
     }
 
-    /// Adds a new key at the end.
+    /// Adds the key at the end.
     pub fn push(&mut self, key: Code) -> Result<(), AllocError>
-        requires { list_any (is_same key) self.old ≡ false }
         ensures { OnOk result (self.new ≡ self.old ++ key ∷ []) }
     {
-        self.keys.insert(key)?;
+        self.keys.push(key)?;
+        if let Err(_) = self.found.insert(key) {
+            self.keys.pop();
+            return Err(AllocError);
+        }
         Ok(())
     }
 
-    /// The keys alone.
-    pub fn into_codes(self, alloc: Global) -> Result<Codes, AllocError>
-        ensures { IfOk result (λ codes. codes ≡ self) }
+    /// The keys, in order.
+    pub fn as_slice(&self) -> &[Code]
+        ensures { result.now ≡ self.now }
     {
-        let keys = Vec::from_slice(alloc, self.keys.as_slice())?;
-        Ok(Codes::from_vec(keys))
+        self.keys.as_slice()
     }
 }
