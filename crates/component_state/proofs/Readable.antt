@@ -1,5 +1,5 @@
 -- Component texts can be read.
-use Rattle.std.proofs.Common.{◌≡◌, ℕ, Bool, false, List, Ok, Err, refl}
+use Rattle.std.proofs.Common.{◌≡◌, ℕ, false, List, Ok, Err, refl}
 use Rattle.grammar.specs.Ends.{Blocks}
 use Rattle.text_lexer.specs.Tokens.{Lexed}
 use Rattle.text_grammar.specs.declared.component.Terminal.{Terminal}

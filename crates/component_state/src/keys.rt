@@ -7,7 +7,7 @@ ghost use Rattle.values.specs.Evaluation.{is_same};
 use std::alloc::{AllocError, Global};
 use std::collections::HashSet;
 use std::marker::Model;
-use values::Code;
+use values::{Code, Codes};
 
 /// Keys, in text order. Whether one is among them is found at once, however many there are. Contracts see the list
 /// of the keys.
@@ -67,5 +67,12 @@ impl Keys {
         ensures { result.now ≡ self.now }
     {
         self.keys.as_slice()
+    }
+    /// The keys alone, in the memory that they have.
+    pub fn into_codes(self) -> Codes
+        ensures { result ≡ self }
+    {
+        let Keys { keys, .. } = self;
+        Codes::from_vec(keys)
     }
 }
