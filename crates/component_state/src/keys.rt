@@ -62,12 +62,6 @@ impl Keys {
         Ok(())
     }
 
-    /// The keys, in order.
-    pub fn as_slice(&self) -> &[Code]
-        ensures { result.now ≡ self.now }
-    {
-        self.keys.as_slice()
-    }
     /// The keys alone, in the memory that they have.
     pub fn into_codes(self) -> Codes
         ensures { result ≡ self }

@@ -7,6 +7,7 @@ mod actions;
 mod keys;
 mod spelling;
 mod state;
+mod text_state;
 
 pub use keys::Keys;
 pub use spelling::Spelling;

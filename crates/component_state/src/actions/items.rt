@@ -115,7 +115,7 @@ impl ComponentState {
             id: self.next_id,
             name: self.name,
             after: self.number,
-            keys: keys.into_codes(alloc)?,
+            keys: keys.into_codes(),
             values,
         };
         self.known_as(Kind::Resource)?;
