@@ -99,18 +99,18 @@ is_dot text next = is_in (only_mark mark.Dot) (kind_of text next)
 abbrev pub is_bracket : List ℕ → Lexed → Bool
 is_bracket text next = is_in (only_mark mark.OpenBracket) (kind_of text next)
 
+abbrev pub is_area_name : Terminal → Bool
+is_area_name terminal.AreaName = true
+is_area_name _ = false
+
 -- Directly before a `.` stands the name of an area, directly before a `[` that of a store, and last what the path is for.
+abbrev pub stands_before : Bool → Bool → Terminal → Named → Bool
+stands_before true bracket t what = is_area what
+stands_before false true t what = is_store what && not (is_area_name t)
+stands_before false false t what = is_wanted t what
+
 abbrev pub may_stand : List ℕ → Terminal → Named → Lexed → Bool
-may_stand text t what next = by_next (is_dot text next) (is_bracket text next)
-  where
-    by_next : Bool → Bool → Bool
-    by_next true bracket = is_area what
-    by_next false true = is_store what && not (is_area_name t)
-      where
-        is_area_name : Terminal → Bool
-        is_area_name terminal.AreaName = true
-        is_area_name _ = false
-    by_next false false = is_wanted t what
+may_stand text t what next = stands_before (is_dot text next) (is_bracket text next) t what
 
 abbrev pub is_path_name : Terminal → Bool
 is_path_name terminal.SetName = true

@@ -93,6 +93,7 @@ perform action.MakeSet a = done (op.Set (id_of a.named) a.key a.literal) a
 perform action.MakeGet a = done (op.Get (id_of a.named) a.key) a
 perform action.MakePump a = done op.Pump a
 perform action.MakeDispose a = done (op.Dispose (owner_of a.named)) a
-perform action.MakeInsert a = edited (Insert (key_of a) a.values a.place) a
+-- the values are now those of the operation
+perform action.MakeInsert a = record (edited (Insert (key_of a) a.values a.place) a) { values = [] }
 perform action.MakeRemove a = edited (Remove (key_of a)) a
 perform action.MakeMove a = edited (Move (key_of a) a.place) a

@@ -1,0 +1,4 @@
+pub mod Named
+pub mod Added
+pub mod Rules
+pub mod Readable

@@ -1,0 +1,7 @@
+//! What each token does.
+
+mod inserts;
+mod keys;
+mod literals;
+mod paths;
+mod phases;
