@@ -41,3 +41,10 @@ apart_flips a b apart = by (is_same b a) refl
     by : (t : Bool) → is_same b a ≡ t → is_same b a ≡ false
     by false e = e
     by true e = absurd (false≢true (sym apart ∙ ap (λ c. is_same a c) (same_true b a e) ∙ same_itself a))
+
+pub same_flips : (a b : Code) → is_same a b ≡ is_same b a
+same_flips a b = by (is_same a b) refl
+  where
+    by : (t : Bool) → is_same a b ≡ t → is_same a b ≡ is_same b a
+    by false e = e ∙ sym (apart_flips a b e)
+    by true e = e ∙ sym (ap (λ c. is_same b c) (same_true a b e) ∙ same_itself b)

@@ -116,7 +116,7 @@ some_is_some None h = refl
 some_is_some (Some x) h = cc
 
 -- where none passes, all of the list is passed over
-none_first : {X : Type 0} (p : X → Bool) (xs : List X) → position p xs ≡ None → position_or_len p xs ≡ length xs
+pub none_first : {X : Type 0} (p : X → Bool) (xs : List X) → position p xs ≡ None → position_or_len p xs ≡ length xs
 none_first p xs h = elim (cases_Bool (nat_lt (position_or_len p xs) (length xs))) [
   | inl e ↦ absurd (none≢some (sym h ∙ ap (λ b. cond b (Some (position_or_len p xs)) None) e))
   | inr e ↦ let le = prefix_len-le-length (λ x. not (p x)) xs in grind (arith, e, le)
@@ -125,14 +125,14 @@ none_first p xs h = elim (cases_Bool (nat_lt (position_or_len p xs) (length xs))
     none≢some : {n : ℕ} → None ≡ Some n → ⊥
     none≢some {n} e = cc
 
-passed_all : {X : Type 0} (p : X → Bool) (x : X) (xs : List X) → prefix_len p (x ∷ xs) ≡ length (x ∷ xs) → (p x ≡ true) × (prefix_len p xs ≡ length xs)
+pub passed_all : {X : Type 0} (p : X → Bool) (x : X) (xs : List X) → prefix_len p (x ∷ xs) ≡ length (x ∷ xs) → (p x ≡ true) × (prefix_len p xs ≡ length xs)
 passed_all p x xs h = by (p x) refl
   where
     by : (b : Bool) → p x ≡ b → (p x ≡ true) × (prefix_len p xs ≡ length xs)
     by true e = let h1 = sym (ap (λ b. cond b (1 + prefix_len p xs) 0) e) ∙ h in (e, omega (arith, h1))
     by false e = let h1 = sym (ap (λ b. cond b (1 + prefix_len p xs) 0) e) ∙ h in absurd (omega (arith, h1))
 
-not_true : (b : Bool) → not b ≡ true → b ≡ false
+pub not_true : (b : Bool) → not b ≡ true → b ≡ false
 not_true true h = cc
 not_true false h = refl
 
@@ -303,7 +303,7 @@ edit_or_none_keeps max width old new op (Err _) _ same kept = subst (λ es. IsSt
 
 -- ---- a copy
 
-apart_at : (key : Code) (rows : List Row) (i : ℕ) (row : Row) → AllByRecursion (λ k. is_same key k ≡ false) (keys rows) → slice_get rows i ≡ Some row → is_same key row.key ≡ false
+pub apart_at : (key : Code) (rows : List Row) (i : ℕ) (row : Row) → AllByRecursion (λ k. is_same key k ≡ false) (keys rows) → slice_get rows i ≡ Some row → is_same key row.key ≡ false
 apart_at key [] i row all is = cc
 apart_at key (r ∷ rows) zero row all is = ap (λ k. is_same key k) {x = row.key} {y = r.key} (cc) ∙ all.0
 apart_at key (r ∷ rows) (suc i) row all is = apart_at key rows i row all.1 is

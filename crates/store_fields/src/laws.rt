@@ -1,10 +1,12 @@
 //! Laws of the definitions that the crate's contracts cite. Each is the contract of a function that
 //! does nothing.
-ghost use Rattle.std.specs.Prelude.{◌≡◌, ◌≢◌, ℕ, List, [], ◌∷◌, pos};
+ghost use Rattle.std.specs.Prelude.{◌≡◌, ◌≢◌, ℕ, List, [], ◌∷◌};
+ghost use Rattle.std.specs.List.{IsDistinct};
+ghost use Rattle.values.specs.Evaluation.{is_same};
 ghost use Rattle.values.specs.declared.code.Code.{Code as CodeValue};
 ghost use Rattle.store_fields.specs.declared.row.Row.{Row as RowValue};
 ghost use Rattle.store_fields.specs.declared.edit.EditOp.{EditOp as OpValue};
-ghost use Rattle.store_fields.specs.Edits.{IsStore, edit, rows_after, verdicts_of};
+ghost use Rattle.store_fields.specs.Edits.{IsStore, keys, edit, rows_after, verdicts_of};
 ghost use Rattle.store_fields.specs.WorkedRows.{row_of, insert_of, move_of, remove_of};
 
 use crate::edit::Verdict;
@@ -18,6 +20,12 @@ pub fn refused_edits_change_nothing()
 pub fn edits_keep_a_store()
     ensures one { (max width : ℕ) (rows : List RowValue) (op : OpValue) → IsStore max width rows → IsStore max width (edit max width rows op).rows }
     ensures all { (max width : ℕ) (rows : List RowValue) (ops : List OpValue) → IsStore max width rows → IsStore max width (rows_after max width rows ops) }
+{}
+
+/// Edits leave the keys of the rows distinct.
+pub fn edits_keep_keys_distinct()
+    ensures one { (max width : ℕ) (rows : List RowValue) (op : OpValue) → IsDistinct is_same (keys rows) → IsDistinct is_same (keys (edit max width rows op).rows) }
+    ensures all { (max width : ℕ) (rows : List RowValue) (ops : List OpValue) → IsDistinct is_same (keys rows) → IsDistinct is_same (keys (rows_after max width rows ops)) }
 {}
 
 /// Worked rows: three inserts at the end, a move to the front and a removal; then a store of one row that
