@@ -1,6 +1,6 @@
 -- What stands outside the `if`s and `each`es of a component: what a script may name.
-use Rattle.std.specs.Prelude.{ℕ, List, [], ◌∷◌, length}
-use Rattle.std.specs.List.{flat_map}
+use Rattle.std.specs.Prelude.{ℕ, suc, ◌+◌, List, [], ◌∷◌, length}
+use Rattle.std.specs.List.{flat_map, range_with_len}
 use Rattle.component_items.specs.declared.component.Item.{Item}
 use Rattle.component_items.specs.declared.component.Item.TheOpen as level
 use Rattle.component_items.specs.declared.component.Item.TheOpen.{Item-F}
@@ -35,3 +35,11 @@ item_members = fold-Item (List Member) members_step
 -- those of a whole component, in text order
 abbrev pub members_of : List Item → List Member
 members_of items = flat_map item_members items
+
+-- the ids that a member takes: a load has one more for its key, a store one for its key and one for each field
+abbrev pub ids_taken : Member → List ℕ
+ids_taken (a_signal id) = id ∷ []
+ids_taken (a_memo id) = id ∷ []
+ids_taken (a_load id) = id ∷ suc id ∷ []
+ids_taken (a_store id fields) = range_with_len id (2 + fields)
+ids_taken (an_area owner) = []
