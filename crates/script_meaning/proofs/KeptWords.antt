@@ -233,7 +233,8 @@ module _ (component : Component) (is_kept : IsKept component) where
   perform_fine action.MakePump a h = op_fine op.Pump a tt h
   perform_fine action.MakeDispose a h = op_fine (op.Dispose (owner_of a.named)) a tt h
   perform_fine action.MakeInsert a h =
-      op_fine (op.Change (record { store = id_of a.named; op = Insert (key_of a) a.values a.place })) a (keyed (length a.texts) a.key h.have.key_has, h.have.values_have) h
+      let made = op_fine (op.Change (record { store = id_of a.named; op = Insert (key_of a) a.values a.place })) a (keyed (length a.texts) a.key h.have.key_has, h.have.values_have) h in
+      values_fine [] (done (op.Change (record { store = id_of a.named; op = Insert (key_of a) a.values a.place })) a) refl made
   perform_fine action.MakeRemove a h = op_fine (op.Change (record { store = id_of a.named; op = Remove (key_of a) })) a (keyed (length a.texts) a.key h.have.key_has) h
   perform_fine action.MakeMove a h = op_fine (op.Change (record { store = id_of a.named; op = Move (key_of a) a.place })) a (keyed (length a.texts) a.key h.have.key_has) h
 
