@@ -1,5 +1,5 @@
 -- Edits keep the keys of rows distinct.
-use Rattle.std.proofs.Common.{◌≡◌, ℕ, zero, suc, ◌≤◌, Bool, true, false, not, Option, Some, None, List, [], ◌∷◌, length, min, nat_le, insert, remove, slice_get, ◌==◌, position, if◌then◌else◌, refl, sym, ap, subst, ◌∙◌}
+use Rattle.std.proofs.Common.{◌≡◌, ℕ, zero, suc, Bool, true, false, not, Option, Some, None, List, [], ◌∷◌, length, min, nat_le, insert, remove, slice_get, ◌==◌, if◌then◌else◌, refl, subst}
 use Rattle.std.specs.List.{AllByRecursion, IsDistinct, prefix_len}
 use Rattle.std.specs.Option.{option_map_or}
 use Rattle.std.proofs.lemmas.List.Sorted.{IsPermutation-insert}
@@ -49,7 +49,7 @@ Distinct-put_at : (others : List Row) (place : ℕ) (row : Row) → Distinct oth
 Distinct-put_at others place row d lacks =
     let i = min place (length others) in
     subst (IsDistinct is_same) (insert-map (λ r. r.key) others i row)
-      (IsDistinct-IsPermutation is_same same_flips (row.key ∷ keys others) (insert (keys others) i row.key) (IsPermutation-insert (keys others) i row.key) (IsDistinct-cons is_same row.key (keys others) lacks d))
+    (IsDistinct-IsPermutation is_same same_flips (row.key ∷ keys others) (insert (keys others) i row.key) (IsPermutation-insert (keys others) i row.key) (IsDistinct-cons is_same row.key (keys others) lacks d))
 
 lacks_all : (key : Code) (rows : List Row) → prefix_len (λ row. not (is_same key row.key)) rows ≡ length rows → Lacks rows key
 lacks_all key [] h = tt
@@ -78,6 +78,7 @@ moved_distinct rows key place d = by (place_of key rows)
     at : (i : ℕ) (o : Option Row) → slice_get rows i ≡ o → Distinct (option_map_or (λ row. made (put_at (remove rows i) place row)) o (edited rows Absent)).rows
     at i None is = d
     at i (Some row) is = Distinct-put_at (remove rows i) place row (Distinct-remove rows i d) (others_lack rows i row d is)
+
     by : (o : Option ℕ) → Distinct (option_map_or (λ i. moved_from rows i place) o (edited rows Absent)).rows
     by None = d
     by (Some i) = at i (slice_get rows i) refl

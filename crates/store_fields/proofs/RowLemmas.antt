@@ -1,5 +1,5 @@
 -- The entries of a map that holds each row at its key, and what edits do to them.
-use Rattle.std.proofs.Common.{Result, Ok, Err, IfOk, OnErr, ◌≡◌, ℕ, suc, ◌+◌, ◌-◌, ◌<◌, ◌≤◌, Bool, true, false, not, Option, Some, None, List, [], ◌∷◌, ◌++◌, length, map, take, drop, min, nat_le, insert, remove, slice_get, slice_set, option_map, refl, sym, ap, subst, ◌∙◌, cond, nat_lt, zero, get_or, is_some, is_none, ◌⊎◌, inl, inr, arith, position, if◌then◌else◌, ◌==◌}
+use Rattle.std.proofs.Common.{Result, Ok, Err, IfOk, OnErr, ◌≡◌, ℕ, suc, ◌+◌, ◌-◌, ◌<◌, ◌≤◌, Bool, true, false, not, Option, Some, None, List, [], ◌∷◌, ◌++◌, length, map, take, drop, min, nat_le, insert, remove, slice_get, slice_set, option_map, refl, sym, ap, subst, ◌∙◌, cond, nat_lt, zero, get_or, is_some, ◌⊎◌, inl, inr, arith, position, if◌then◌else◌, ◌==◌}
 use Rattle.std.proofs.lemmas.Map.Keys.{IsDistinct-head, IsDistinct-tail}
 use Rattle.std.specs.List.{All, AllByRecursion, IsDistinct, prefix_len, position_or_len, take-map, drop-map}
 use Rattle.std.specs.Option.{option_map_or}
@@ -22,7 +22,7 @@ use Rattle.store_fields.specs.declared.edit.EditOp.TheVariants as ops
 use Rattle.store_fields.specs.declared.edit.Verdict.{Verdict}
 use Rattle.store_fields.specs.declared.edit.Verdict.TheVariants.{Done, Absent, Present, AtMax}
 use Rattle.std.proofs.lemmas.List.Edits.{length-remove, length-insert}
-use Rattle.std.proofs.lemmas.List.Elements.{All-append, All-cons, All-take, All-drop, All-set, All-get_or}
+use Rattle.std.proofs.lemmas.List.Elements.{All-append, All-cons, All-take, All-drop, All-get_or}
 use Rattle.store_fields.specs.Edits.{Edited, IsStore, keys, place_of, edited, made, put_at, removed, moved, moved_from, inserted, field_set, edit, rows_after, verdicts_of}
 use Rattle.store_fields.specs.Table.{paired, IsPaired}
 

@@ -1,7 +1,7 @@
 -- The edits of a keyed list of rows, as functions of lists. Each gives the new list and what comes of the edit.
-use Rattle.std.specs.Prelude.{ℕ, ◌≤◌, ◌≡◌, ◌==◌, nat_le, Bool, true, false, if◌then◌else◌, List, [], ◌∷◌, length, map, insert, remove, slice_get, slice_set, min, Option, Some, None, position}
+use Rattle.std.specs.Prelude.{ℕ, ◌≤◌, ◌≡◌, ◌==◌, nat_le, if◌then◌else◌, List, [], ◌∷◌, length, map, insert, remove, slice_get, slice_set, min, Option, position}
 use Rattle.std.specs.Option.{option_map_or}
-use Rattle.std.specs.List.{All, IsDistinct}
+use Rattle.std.specs.List.{All}
 use Rattle.values.specs.declared.code.Code.{Code}
 use Rattle.values.specs.Evaluation.{is_same}
 use Rattle.store_fields.specs.declared.row.Row.{Row}

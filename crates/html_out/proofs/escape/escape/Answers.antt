@@ -1,5 +1,4 @@
-use Rattle.std.proofs.Common.{◌≡◌, ℕ, List, ◌≤◌, ◌+◌, ◌∷◌, ◌++◌, [], take, drop, slice_range, length, get_or, sym, ap, subst, ◌∙◌, append_assoc, arith}
-use Rattle.std.proofs.lemmas.List.{take_all}
+use Rattle.std.proofs.Common.{◌≡◌, ℕ, List, ◌+◌, ◌++◌, take, drop, slice_range, length, sym, ap, subst, ◌∙◌, append_assoc, arith}
 use Rattle.outside.specs.Puts.{PutsAll, PutsPart}
 use Rattle.outside.proofs.PutLemmas.{then_puts, then_part, then_all, at_err, same_all, same_puts}
 use Rattle.html_out.specs.Shown.{escaped}

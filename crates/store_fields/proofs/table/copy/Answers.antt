@@ -1,4 +1,4 @@
-use Rattle.std.proofs.Common.{◌≡◌, suc, ◌+◌, Some, map, take, slice_get, sym, ap, subst, ◌∙◌, arith}
+use Rattle.std.proofs.Common.{◌≡◌, suc, ◌+◌, Some, map, take, slice_get, ap, ◌∙◌, arith}
 use Rattle.std.specs.Map.{values_of}
 use Rattle.values.specs.contracts.code.CodePartialEq.TheImpl.{ghosts}
 use Rattle.indexmap.specs.IndexMap.{insert_entry}

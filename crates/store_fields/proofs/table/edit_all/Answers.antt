@@ -1,4 +1,4 @@
-use Rattle.std.proofs.Common.{◌≡◌, ◌∷◌, ◌++◌, [], length, sym, ap, ◌∙◌, arith, length-append}
+use Rattle.std.proofs.Common.{◌∷◌, ◌++◌, [], sym, ap, ◌∙◌, arith, length-append}
 use Rattle.indexmap.specs.IndexMap.{values}
 use Rattle.store_fields.specs.Edits.{edit, verdicts_of}
 use Rattle.store_fields.proofs.RowLemmas.{rows_after-append, verdicts_of-append}

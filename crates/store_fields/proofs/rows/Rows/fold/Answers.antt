@@ -1,4 +1,4 @@
-use Rattle.std.proofs.Common.{subst, sym, ap}
+use Rattle.std.proofs.Common.{subst, sym}
 use Rattle.std.specs.Map.{values_of}
 use Rattle.store_fields.specs.Edits.{IsStore}
 use Rattle.store_fields.proofs.RowLemmas.{all_keep}
