@@ -1,5 +1,5 @@
 -- The members of a component take ids and owners of it.
-use Rattle.std.proofs.Common.{◌≡◌, ℕ, zero, suc, ◌+◌, ◌<◌, ◌≤◌, List, [], ◌∷◌, ◌++◌, length, map, Contains, refl, sym, subst, arith}
+use Rattle.std.proofs.Common.{◌≡◌, ℕ, zero, suc, ◌+◌, ◌<◌, ◌≤◌, List, [], ◌∷◌, ◌++◌, length, map, Contains, sym, subst, arith}
 use Rattle.std.specs.List.{AllByRecursion as Each, flat_map, concat, range_with_len}
 use Rattle.std.proofs.lemmas.List.Elements.{All-from_recursion, All-contains, All-contains_itself, recursion_from_All, Contains-push, Contains-append_left, Contains-append_right}
 use Rattle.values.specs.declared.limits.TheConstants.{MOST_OWNERS}

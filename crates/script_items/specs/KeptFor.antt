@@ -2,7 +2,6 @@
 use Rattle.std.specs.Prelude.{◌≡◌, ◌⊎◌, ℕ, ◌+◌, ◌<◌, true, List, length, Option, Some, None, All, Contains, ◌++◌}
 use Rattle.std.specs.List.{list_all}
 use Rattle.values.specs.declared.code.Code.{Code}
-use Rattle.store_fields.specs.declared.edit.Edit.{Edit}
 use Rattle.store_fields.specs.declared.edit.EditOp.{EditOp}
 use Rattle.store_fields.specs.declared.edit.EditOp.TheVariants.{Insert, Remove, Move}
 use Rattle.component_items.specs.declared.component.Component.{Component}
