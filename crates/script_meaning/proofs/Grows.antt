@@ -1,6 +1,5 @@
 -- A script only adds texts.
 use Rattle.std.proofs.Common.{◌≡◌, ℕ, Bool, true, false, if◌then◌else◌, List, [], ◌∷◌, ◌++◌, Ok, Err, Some, None, Option, is_some, refl, sym, ap, subst, ◌∙◌, append_assoc, append-nil}
-use Rattle.grammar.specs.Ahead.{WithNext}
 use Rattle.grammar.specs.Keeping.{Keeps}
 use Rattle.grammar.proofs.Keeping.{kept}
 use Rattle.values.specs.Texts.{index_of, with_text}

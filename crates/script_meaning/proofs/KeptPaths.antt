@@ -1,12 +1,11 @@
 -- Each operation of a script names what there is.
-use Rattle.std.proofs.Common.{◌≡◌, ℕ, zero, suc, ◌+◌, ◌<◌, ◌≤◌, ◌==◌, ◌&&◌, ◌||◌, not, Bool, true, false, if◌then◌else◌, List, [], ◌∷◌, ◌++◌, length, slice_set, is_none, Some, None, Option, Ok, ◌⊎◌, inl, inr, Contains, refl, sym, ap, subst, ◌∙◌, arith}
-use Rattle.std.specs.List.{AllByRecursion as Each, position, list_all}
-use Rattle.std.specs.Option.{option_map, option_and_then}
+use Rattle.std.proofs.Common.{◌≡◌, ℕ, zero, suc, ◌+◌, ◌<◌, ◌==◌, ◌||◌, not, Bool, true, false, List, [], ◌∷◌, length, slice_set, is_none, Some, None, Option, Ok, ◌⊎◌, inl, inr, Contains, refl, sym, ap, subst, ◌∙◌}
+use Rattle.std.specs.List.{AllByRecursion as Each, position}
+use Rattle.std.specs.Option.{option_and_then}
 use Rattle.std.proofs.lemmas.Bool.{and_parts, eqb-true, false≢true}
 use Rattle.std.proofs.lemmas.List.Quantifiers.{position-Some}
 use Rattle.values.specs.declared.code.Code.{Code}
 use Rattle.values.specs.Texts.{index_of}
-use Rattle.grammar.specs.Ahead.{WithNext}
 use Rattle.grammar.specs.Table.{production_at}
 use Rattle.text_lexer.specs.declared.token.Mark.TheVariants as mark
 use Rattle.text_lexer.specs.declared.token.Reserved.TheVariants as word
@@ -16,7 +15,7 @@ use Rattle.text_grammar.specs.declared.kind.Kind.{Kind}
 use Rattle.text_grammar.specs.declared.kind.Kind.TheVariants as kind
 use Rattle.text_grammar.specs.Class.{is_number, is_same, number_of}
 use Rattle.text_grammar.specs.Kind.{kind_of}
-use Rattle.text_grammar.specs.Script.{matches, table, text}
+use Rattle.text_grammar.specs.Script.{matches, table}
 use Rattle.text_grammar.specs.declared.script.Action.{Action}
 use Rattle.text_grammar.specs.declared.script.Action.TheVariants as action
 use Rattle.text_grammar.specs.declared.script.Rule.{Rule}
@@ -30,7 +29,7 @@ use Rattle.script_items.specs.declared.operation.ScriptOp.{ScriptOp}
 use Rattle.script_items.specs.declared.operation.ScriptOp.TheVariants as op
 use Rattle.script_items.specs.KeptFor.{AllOps, NamesMembers, IsField, MaySet, MayGet}
 use Rattle.script_items.specs.Members.{Member, a_signal as signal_member, a_memo as memo_member, a_load as load_member, a_store as store_member, an_area as area_member, members_of}
-use Rattle.script_meaning.specs.Names.{Named, nothing, a_signal, a_memo, a_load, a_store, an_area, another, names_of}
+use Rattle.script_meaning.specs.Names.{Named, nothing, a_signal, a_memo, a_load, a_store, an_area, another}
 use Rattle.script_meaning.specs.State.{State}
 use Rattle.script_meaning.specs.Checks.{failed, fails, order, unknown_name, wrong_place, is_dot, is_bracket, is_signal, has_value, is_store, is_area, is_wanted, may_stand, stands_wrong, owner_of, found_as, fields_of, field_of}
 use Rattle.script_meaning.specs.Effects.{id_of, with_found, with_row_field, with_given, effect, starts_of, key_of, perform}

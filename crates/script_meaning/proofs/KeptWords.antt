@@ -1,12 +1,12 @@
 -- The texts of a script are in its table.
-use Rattle.std.proofs.Common.{◌≡◌, ℕ, zero, suc, ◌+◌, ◌<◌, ◌≤◌, ◌&&◌, Bool, true, false, if◌then◌else◌, List, [], ◌∷◌, ◌++◌, length, slice_set, unwrap_or, Some, None, Option, Ok, refl, sym, ap, subst, ◌∙◌, arith}
+use Rattle.std.proofs.Common.{◌≡◌, ℕ, zero, suc, ◌≤◌, Bool, true, false, if◌then◌else◌, List, [], ◌∷◌, length, slice_set, unwrap_or, Some, None, Option, refl, sym, subst, arith}
 use Rattle.std.specs.List.{AllByRecursion as Each, list_all}
 use Rattle.std.specs.Option.{option_map}
 use Rattle.std.specs.Str.{bytes_eq}
 use Rattle.std.proofs.lemmas.Bool.{and_parts, and_from}
 use Rattle.values.specs.declared.code.Code.{Code}
 use Rattle.values.specs.declared.code.Code.TheVariants.{Empty, Word}
-use Rattle.values.specs.Texts.{index_of, with_text}
+use Rattle.values.specs.Texts.{with_text}
 use Rattle.grammar.specs.Keeping.{Keeps}
 use Rattle.grammar.proofs.Keeping.{kept}
 use Rattle.text_lexer.specs.declared.token.Token.{Token}
@@ -26,10 +26,10 @@ use Rattle.script_items.specs.declared.operation.ScriptOp.{ScriptOp}
 use Rattle.script_items.specs.declared.operation.ScriptOp.TheVariants as op
 use Rattle.script_items.specs.KeptFor.{KeyHasText, EditHasTexts, HasTexts, AllOps}
 use Rattle.script_items.specs.Members.{members_of}
-use Rattle.script_meaning.specs.Names.{Named, nothing, a_signal, a_memo, a_load, a_store, an_area, another, Declaration, names_of}
+use Rattle.script_meaning.specs.Names.{Named, nothing, a_signal, a_memo, a_load, a_store, an_area, another, names_of}
 use Rattle.script_meaning.specs.State.{State, start_for}
 use Rattle.script_meaning.specs.Checks.{owner_of, found_as, field_of}
-use Rattle.script_meaning.specs.Effects.{id_of, with_found, with_row_field, with_given, with_text_key, with_text_literal, effect, starts_of, done, key_of, perform}
+use Rattle.script_meaning.specs.Effects.{id_of, with_found, with_row_field, with_given, effect, starts_of, done, key_of, perform}
 use Rattle.script_meaning.specs.Meaning.{semantics}
 use Rattle.script_meaning.specs.Script.{IsScript}
 use Rattle.script_meaning.proofs.KeptOps.{accepted, EachOp, ops_more, phase_more, lane_more, op_more, all_ops}
