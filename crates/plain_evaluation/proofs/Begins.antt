@@ -16,6 +16,7 @@ use Rattle.component_items.specs.Ids.{attr_ids, ids_step, item_ids, ids_in, owne
 use Rattle.component_items.specs.Kept.{IsKept}
 use Rattle.plain_evaluation.specs.Held.{Holding, nothing, stored, no_rows, Held, value_in, rows_in, arrived_in, first_attr, first_step, item_first, first_held}
 use Rattle.plain_evaluation.specs.Begins.{all_begin, store_begins, begins_step, item_begins, Begins}
+use Rattle.plain_evaluation.proofs.Lookup.{store_ids}
 use Rattle.plain_evaluation.proofs.Places.{and_both, code_itself}
 
 -- ---- what stands at ids, and owners that are live
@@ -62,13 +63,6 @@ live_itself before (owner ∷ owners) =
     (at_length before true (map (λ owner. true) owners) false, subst (λ n. AllLive (before ++ true ∷ map (λ owner. true) owners) (range_with_len n (length owners))) longer (subst (λ all. AllLive all (range_with_len (length (before ++ true ∷ [])) (length owners))) (append_assoc before (true ∷ []) (map (λ owner. true) owners)) rest))
 
 -- ---- one item
-
-store_ids : (id count : ℕ) → range_with_len id (2 + count) ≡ id ∷ suc id ∷ range_with_len (2 + id) count
-store_ids id count = sym (
-    ap (λ k. id ∷ suc id ∷ range_with_len k count) {x = 2 + id} {y = suc id + 1} (omega arith)
-    ∙ ap (λ k. id ∷ range_with_len k (suc count)) {x = suc id} {y = id + 1} (omega arith)
-    ∙ ap (λ k. range_with_len id k) {x = suc (suc count)} {y = 2 + count} (omega arith)
-    )
 
 attrs_long : (attrs : List Attr) → length (flat_map attr_ids attrs) ≡ length (flat_map first_attr attrs)
 attrs_long [] = refl
@@ -126,7 +120,7 @@ module _ (held : Held) where
   by_form (level.Store id name max fields starts) = (
     (let a = length-range_with_len id (2 + length fields) in let b = length-map fields (λ (field : ℕ). nothing) in omega arith),
     λ has live.
-        (let both : HasAll held.holdings (id ∷ suc id ∷ range_with_len (2 + id) (length fields)) (stored (no_rows max (length fields)) ∷ nothing ∷ map (λ field. nothing) fields) = subst (λ ids. HasAll held.holdings ids (stored (no_rows max (length fields)) ∷ nothing ∷ map (λ field. nothing) fields)) (store_ids id (length fields)) has in
+        (let both : HasAll held.holdings (id ∷ suc id ∷ range_with_len (2 + id) (length fields)) (stored (no_rows max (length fields)) ∷ nothing ∷ map (λ field. nothing) fields) = subst (λ ids. HasAll held.holdings ids (stored (no_rows max (length fields)) ∷ nothing ∷ map (λ field. nothing) fields)) (sym (store_ids id (length fields))) has in
         ap (store_begins max (length fields)) both.0 ∙ same max (length fields)),
   )
     where

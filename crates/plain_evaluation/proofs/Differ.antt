@@ -55,7 +55,7 @@ or_false : (a b : Bool) → a ≡ false → b ≡ false → (a || b) ≡ false
 or_false a b h g = (λ i. h i || b) ∙ g
 
 -- a list after another that has none of its places
-differ-append : (xs ys : List Written) → places_differ xs ≡ true → places_differ ys ≡ true → ((p : Place) → has_place xs p ≡ true → has_place ys p ≡ false) → places_differ (xs ++ ys) ≡ true
+pub differ-append : (xs ys : List Written) → places_differ xs ≡ true → places_differ ys ≡ true → ((p : Place) → has_place xs p ≡ true → has_place ys p ≡ false) → places_differ (xs ++ ys) ≡ true
 differ-append [] ys first second apart = second
 differ-append (x ∷ xs) ys first second apart =
     let both = and_cases (not (has_place xs (place_of x))) (places_differ xs) first in

@@ -1,7 +1,6 @@
 -- Each id has one flag.
-use Rattle.std.proofs.Common.{◌≡◌, ℕ, suc, ◌+◌, ◌<◌, ◌==◌, if◌then◌else◌, Bool, true, false, List, [], ◌∷◌, ◌++◌, map, length, refl, sym, ap, subst, ◌∙◌, arith}
+use Rattle.std.proofs.Common.{◌≡◌, ℕ, suc, ◌+◌, Bool, true, false, List, [], ◌∷◌, ◌++◌, map, length, refl, sym, ap, subst, ◌∙◌, arith}
 use Rattle.std.specs.List.{flat_map, concat, range_with_len}
-use Rattle.std.proofs.lemmas.List.{map-append}
 use Rattle.component_items.specs.declared.component.Attr.{Attr}
 use Rattle.component_items.specs.declared.component.Attr.TheVariants as attr
 use Rattle.component_items.specs.declared.component.Item.{Item}
@@ -11,20 +10,16 @@ use Rattle.component_items.specs.declared.component.Item.TheViews.{roll-Item}
 use Rattle.component_items.specs.declared.component.Item.TheFolds.{fold-roll-Item, map-Item, ind-Item}
 use Rattle.component_items.specs.Ids.{attr_ids, ids_step, item_ids, ids_in}
 use Rattle.plain_evaluation.specs.Keyed.{keyed_fields, keyed_attr, keyed_all, keyed_step, item_keyed, items_keyed, flag_of}
+use Rattle.plain_evaluation.proofs.Lookup.{ids_of, ids_of-append, AreFound, found-append, numbered_found, store_ids}
 
 -- the flags are those of the component
 abbrev pub AreKeyed : (ℕ → Bool) → List (ℕ × Bool) → Type 0
-AreKeyed keyed [] = Unit {0}
-AreKeyed keyed (pair ∷ pairs) = (keyed pair.0 ≡ pair.1) × AreKeyed keyed pairs
+AreKeyed keyed pairs = AreFound keyed pairs
 
 pub keyed-append : (keyed : ℕ → Bool) (xs ys : List (ℕ × Bool)) → AreKeyed keyed (xs ++ ys) → AreKeyed keyed xs × AreKeyed keyed ys
-keyed-append keyed [] ys h = (tt, h)
-keyed-append keyed (x ∷ xs) ys h = let rest = keyed-append keyed xs ys h.1 in ((h.0, rest.0), rest.1)
+keyed-append keyed xs ys h = found-append keyed xs ys h
 
 -- ---- the ids of the flags are those of the items
-
-abbrev ids_of : List (ℕ × Bool) → List ℕ
-ids_of pairs = map (λ p. p.0) pairs
 
 abbrev IsFlagged : Item → Type 0
 IsFlagged item = (inside : Bool) → ids_of (item_keyed item inside) ≡ item_ids item
@@ -34,9 +29,6 @@ Proven = (item : Item) × IsFlagged item
 
 abbrev items_of : List Proven → List Item
 items_of known = map (λ k. k.0) known
-
-ids_of-append : (xs ys : List (ℕ × Bool)) → ids_of (xs ++ ys) ≡ ids_of xs ++ ids_of ys
-ids_of-append xs ys = map-append (λ p. p.0) xs ys
 
 layer : (x : Item-F Item) (inside : Bool) → item_keyed (roll-Item x) inside ≡ keyed_step (map-Item Item (Bool → List (ℕ × Bool)) item_keyed x) inside
 unfolding item_keyed
@@ -51,12 +43,6 @@ fields_flagged first [] = refl
 fields_flagged first (name ∷ fields) =
     ap (λ more. first ∷ more) (fields_flagged (suc first) fields)
     ∙ ap (λ k. first ∷ range_with_len k (length fields)) {x = suc first} {y = first + 1} (omega arith)
-
-store_ids : (id count : ℕ) → id ∷ suc id ∷ range_with_len (2 + id) count ≡ range_with_len id (2 + count)
-store_ids id count =
-    ap (λ k. id ∷ suc id ∷ range_with_len k count) {x = 2 + id} {y = suc id + 1} (omega arith)
-    ∙ ap (λ k. id ∷ range_with_len k (suc count)) {x = suc id} {y = id + 1} (omega arith)
-    ∙ ap (λ k. range_with_len id k) {x = suc (suc count)} {y = 2 + count} (omega arith)
 
 attrs_flagged : (attrs : List Attr) (inside : Bool) → ids_of (flat_map (keyed_attr inside) attrs) ≡ flat_map attr_ids attrs
 attrs_flagged [] inside = refl
@@ -101,33 +87,5 @@ items_flagged (item ∷ items) inside =
 
 -- ---- each id has its own flag
 
--- flags of later ids are not hidden
-later_right : (first : ℕ × Bool) (pairs others : List (ℕ × Bool)) (n : ℕ) → first.0 < n → ids_of others ≡ range_with_len n (length others) → AreKeyed (flag_of pairs) others → AreKeyed (flag_of (first ∷ pairs)) others
-later_right first pairs [] n before ids right = tt
-later_right first pairs (pair ∷ others) n before ids right =
-    let same : pair.0 ≡ n = cc in
-    let rest : ids_of others ≡ range_with_len (n + 1) (length others) = cc in
-    (at (first.0 == pair.0) refl (omega arith), later_right first pairs others (n + 1) (omega arith) rest right.1)
-  where
-    at : (b : Bool) → (first.0 == pair.0) ≡ b → first.0 < pair.0 → (if b then first.1 else flag_of pairs pair.0) ≡ pair.1
-    at true is lt = absurd (grind arith)
-    at false is lt = right.0
-
-right_from : (pairs : List (ℕ × Bool)) (n : ℕ) → ids_of pairs ≡ range_with_len n (length pairs) → AreKeyed (flag_of pairs) pairs
-right_from [] n ids = tt
-right_from (pair ∷ pairs) n ids =
-    let same : pair.0 ≡ n = cc in
-    let rest : ids_of pairs ≡ range_with_len (n + 1) (length pairs) = cc in
-    (at (pair.0 == pair.0) refl, later_right pair pairs pairs (n + 1) (omega arith) rest (right_from pairs (n + 1) rest))
-  where
-    at : (b : Bool) → (pair.0 == pair.0) ≡ b → (if b then pair.1 else flag_of pairs pair.0) ≡ pair.1
-    at true is = refl
-    at false is = absurd (grind arith)
-
-pub length_ids : (pairs : List (ℕ × Bool)) → length (ids_of pairs) ≡ length pairs
-length_ids [] = refl
-length_ids (pair ∷ pairs) = ap suc (length_ids pairs)
-
 pub flags_right : (items : List Item) → ids_in items ≡ range_with_len 0 (length (ids_in items)) → AreKeyed (flag_of (items_keyed items false)) (items_keyed items false)
-flags_right items numbered =
-    right_from (items_keyed items false) 0 (items_flagged items false ∙ numbered ∙ ap (λ k. range_with_len 0 k) (ap length (sym (items_flagged items false)) ∙ length_ids (items_keyed items false)))
+flags_right items numbered = numbered_found false (items_keyed items false) (ids_in items) (items_flagged items false) numbered

@@ -1,3 +1,4 @@
+pub mod Lookup
 pub mod Places
 pub mod Flags
 pub mod Covers
@@ -11,3 +12,6 @@ pub mod Computes
 pub mod Begins
 pub mod Fitting
 pub mod PageLemmas
+pub mod Every
+pub mod Told
+pub mod Origins

@@ -15,7 +15,7 @@ use Rattle.plain_evaluation.proofs.Solves.{each_of, has_named}
 use Rattle.plain_evaluation.proofs.Makes.{makes_sense}
 
 -- the position of a place that a first part has is in that part
-position_within : (xs ys : List Written) (p : Place) (r : ℕ) → has_place xs p ≡ true → position_of (map place_of (xs ++ ys)) p ≡ Some r → r < length xs
+pub position_within : (xs ys : List Written) (p : Place) (r : ℕ) → has_place xs p ≡ true → position_of (map place_of (xs ++ ys)) p ≡ Some r → r < length xs
 position_within [] ys p r has is = cc
 position_within (x ∷ xs) ys p r has is = at (same_place (place_of x) p) (position_of (map place_of (xs ++ ys)) p) refl has is (λ k. position_within xs ys p k)
   where
@@ -25,7 +25,7 @@ position_within (x ∷ xs) ys p r has is = at (same_place (place_of x) p) (posit
     at false (Some k) found has is later = let e : r ≡ suc k = cc in let lt = later k has found in omega arith
 
 -- what a place of the text names comes before it
-names_at : (keyed : ℕ → Bool) (before xs ys : List Written) (w : Written) → names_come_before keyed before (xs ++ w ∷ ys) ≡ true → list_all (λ id. comes_before (before ++ xs) (stands_for keyed w.scene id)) (ids_read w.says w.id) ≡ true
+pub names_at : (keyed : ℕ → Bool) (before xs ys : List Written) (w : Written) → names_come_before keyed before (xs ++ w ∷ ys) ≡ true → list_all (λ id. comes_before (before ++ xs) (stands_for keyed w.scene id)) (ids_read w.says w.id) ≡ true
 names_at keyed before [] ys w come = subst (λ zs. list_all (λ id. comes_before zs (stands_for keyed w.scene id)) (ids_read w.says w.id) ≡ true) (sym (append-nil before)) (and_cases _ (names_come_before keyed (before ++ w ∷ []) ys) come).0
 names_at keyed before (x ∷ xs) ys w come = subst (λ zs. list_all (λ id. comes_before zs (stands_for keyed w.scene id)) (ids_read w.says w.id) ≡ true) (append_assoc before (x ∷ []) xs) (names_at keyed (before ++ x ∷ []) xs ys w (and_cases (list_all (λ id. comes_before before (stands_for keyed x.scene id)) (ids_read x.says x.id)) (names_come_before keyed (before ++ x ∷ []) (xs ++ w ∷ ys)) come).1)
 

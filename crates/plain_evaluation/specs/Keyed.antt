@@ -9,6 +9,7 @@ use Rattle.component_items.specs.declared.component.Item.{Item}
 use Rattle.component_items.specs.declared.component.Item.TheOpen as level
 use Rattle.component_items.specs.declared.component.Item.TheOpen.{Item-F}
 use Rattle.component_items.specs.declared.component.Item.TheFolds.{fold-Item}
+use Rattle.plain_evaluation.specs.Lookup.{found_in}
 use Rattle.plain_evaluation.specs.Place.{Place, place_at}
 use Rattle.plain_evaluation.specs.Written.{RowAround, Scene}
 
@@ -52,8 +53,7 @@ items_keyed [] inside = []
 items_keyed (item ∷ items) inside = item_keyed item inside ++ items_keyed items inside
 
 abbrev pub flag_of : List (ℕ × Bool) → ℕ → Bool
-flag_of [] id = false
-flag_of (pair ∷ pairs) id = if pair.0 == id then pair.1 else flag_of pairs id
+flag_of = found_in false
 
 abbrev pub is_keyed : Component → ℕ → Bool
 is_keyed component id = flag_of (items_keyed component.items false) id

@@ -1,3 +1,4 @@
+pub mod Lookup
 pub mod Place
 pub mod Held
 pub mod Written
@@ -8,3 +9,4 @@ pub mod Sound
 pub mod Fits
 pub mod Rows
 pub mod Begins
+pub mod Origins

@@ -7,8 +7,9 @@ ghost use Rattle.plain_evaluation.specs.Begins.{Begins};
 ghost use Rattle.plain_evaluation.specs.Fits.{Fits, RowsFit};
 ghost use Rattle.plain_evaluation.specs.Held.{Held, first_held};
 ghost use Rattle.plain_evaluation.specs.Keyed.{is_keyed};
-ghost use Rattle.plain_evaluation.specs.Sound.{IsSound, SolvesItsEquations, ReadsStandBefore};
-ghost use Rattle.plain_evaluation.specs.Written.{State, state_of, written_in};
+ghost use Rattle.plain_evaluation.specs.Origins.{origin_in, origin_of};
+ghost use Rattle.plain_evaluation.specs.Sound.{Among, IsSound, SolvesItsEquations, ReadsStandBefore};
+ghost use Rattle.plain_evaluation.specs.Written.{State, Written, state_of, written_in};
 
 /// What a component writes out makes sense: no place stands twice, and what is named stands before it in the
 /// text and is no effect.
@@ -45,4 +46,10 @@ pub fn first_state_fits()
 /// The rows of held state that fits are as the laws ask.
 pub fn fitting_state_has_fitting_rows()
     ensures { (component : ComponentValue) (held : Held) → Fits component held → RowsFit component (state_of held) }
+{}
+
+/// What is written out has the origin that the text gives its id: whatever the state, an id has one owner, one
+/// store around it, one kind and one expression.
+pub fn places_have_origins()
+    ensures { (component : ComponentValue) (state : State) → IsKept component → RowsFit component state → (w : Written) → Among (written_in component state) w → origin_in component w.id ≡ origin_of w }
 {}
