@@ -1,12 +1,9 @@
 -- What follows where bytes are written one after another.
-use Rattle.std.proofs.Common.{◌≡◌, ℕ, ◌+◌, ◌<◌, ◌≤◌, List, [], ◌++◌, Option, Some, None, Result, Ok, Err, IsErr, length, take, drop, sym, subst, ap, ◌∙◌, arith, length-append}
-use Rattle.std.proofs.lemmas.List.{take-append-le, append-nil}
-use Rattle.std.proofs.Math.Seq.{take-add, take-append-add}
+use Rattle.std.proofs.Common.{◌≡◌, ℕ, List, [], ◌++◌, Option, Some, None, Result, Ok, Err, IsErr, sym, subst, ap, arith}
+use Rattle.std.proofs.lemmas.List.{append-nil}
 use Rattle.std.proofs.KnownBytes.{Appends-trans}
-use Rattle.std.specs.Io.KnownBytes.{Appends}
 use Rattle.outside.specs.declared.traits.Failed.{Failed}
 use Rattle.outside.specs.Puts.{Puts, PutsAll, PutsPart}
-use Rattle.outside.specs.Bytes.{AppendsPart}
 use Rattle.outside.proofs.ByteLemmas.{AppendsPart-after}
 
 module _ {a b : Option (List ℕ)} {f g : ℕ} where
