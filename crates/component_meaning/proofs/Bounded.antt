@@ -1,5 +1,5 @@
 -- Each production of component texts pays for the ids and owners that it takes.
-use Rattle.std.proofs.Common.{◌≡◌, ℕ, suc, ◌+◌, ◌≤◌, Bool, true, List, [], ◌∷◌, ◌++◌, length, Ok, Err, Some, None, Option, refl, sym, subst, arith, length-append}
+use Rattle.std.proofs.Common.{◌≡◌, ℕ, ◌+◌, ◌≤◌, true, List, [], ◌∷◌, length, Ok, Err, Some, None, Option, refl, subst, arith, length-append}
 use Rattle.std.specs.List.{list_all}
 use Rattle.grammar.specs.declared.symbol.Symbol.{Symbol}
 use Rattle.grammar.specs.Ahead.{WithNext}
@@ -18,10 +18,9 @@ use Rattle.component_items.specs.declared.component.Attr.{Attr}
 use Rattle.component_items.specs.declared.component.Attr.TheVariants as attr
 use Rattle.component_items.specs.declared.component.Item.{Item}
 use Rattle.component_items.specs.declared.component.Item.TheVariants as item
-use Rattle.component_items.specs.declared.refusal.Refusal.{Refusal}
-use Rattle.grammar.specs.Paid.{rule_pays, need}
+use Rattle.grammar.specs.Paid.{rule_pays}
 use Rattle.grammar.proofs.Paid as paid
-use Rattle.component_meaning.specs.State.{State, Frame, area_frame, if_frame, each_frame, element_frame, Open, signal_name, memo_name, effect_name, resource_name, load_name, store_name, area_name}
+use Rattle.component_meaning.specs.State.{State, Frame, area_frame, if_frame, each_frame, element_frame, Open, signal_name, memo_name, effect_name, resource_name, load_name, store_name}
 use Rattle.component_meaning.specs.Names.{id_of, rows_from, number_with}
 use Rattle.component_meaning.specs.Checks.{Check, failed}
 use Rattle.component_meaning.specs.Effects.{effect}

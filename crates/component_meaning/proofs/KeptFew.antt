@@ -1,8 +1,8 @@
 -- Ids are few: no more of them are taken than a text has tokens, and each token takes a byte.
-use Rattle.std.proofs.Common.{◌≡◌, ℕ, suc, ◌+◌, ◌-◌, ◌<◌, ◌≤◌, false, cond, List, [], ◌∷◌, ◌++◌, length, drop, Ok, Err, refl, sym, ◌∙◌, ap, subst, arith, length-append}
+use Rattle.std.proofs.Common.{◌≡◌, ℕ, suc, ◌+◌, ◌-◌, ◌<◌, ◌≤◌, false, cond, List, [], ◌∷◌, length, drop, Ok, Err, refl, sym, ◌∙◌, ap, subst, arith, length-append}
 use Rattle.std.proofs.lemmas.List.FromFn.{length-range_with_len}
 use Rattle.std.proofs.lemmas.Bool.{false≢true}
-use Rattle.grammar.specs.Ahead.{WithNext, with_next}
+use Rattle.grammar.specs.Ahead.{with_next}
 use Rattle.grammar.proofs.Keeping.{kept}
 use Rattle.text_lexer.specs.declared.token.TokenKind.{TokenKind}
 use Rattle.text_lexer.specs.declared.token.TokenKind.TheVariants.{End}
@@ -11,7 +11,7 @@ use Rattle.text_lexer.specs.Lexing.{is_end, after}
 use Rattle.text_lexer.specs.Tokens.{Lexed, IsGiven, past, is_last, Leads, here, on, IsTokenList}
 use Rattle.text_lexer.proofs.TokenLists.{text_past}
 use Rattle.text_lexer.proofs.Tokens.{longest_some}
-use Rattle.text_grammar.specs.Component.{table, text}
+use Rattle.text_grammar.specs.Component.{table}
 use Rattle.component_items.specs.declared.component.Component.{Component}
 use Rattle.component_items.specs.Ids.{item_ids, ids_in}
 use Rattle.component_meaning.specs.Component.{IsComponent}
