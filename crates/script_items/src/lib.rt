@@ -5,7 +5,7 @@ mod laws;
 mod operation;
 mod script;
 
-pub use laws::members_are_within;
+pub use laws::{kept_with_its_texts, members_are_within};
 pub use operation::ScriptOp;
 pub use script::{END_OF_ROWS, Script};
 
