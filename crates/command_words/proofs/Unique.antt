@@ -14,7 +14,7 @@ use Rattle.command_words.specs.Words.{Give, nothing, end_of_options, answers, ro
 use Rattle.command_words.specs.declared.error.WordsError.{WordsError}
 use Rattle.command_words.specs.declared.error.WordsError.TheVariants.{BadWords, NoMemory}
 use Rattle.command_words.specs.declared.settings.Settings.{Settings}
-use Rattle.clap.specs.Words.{first_value, found_of, one_text}
+use Rattle.clap.specs.Words.{first_value, found_of}
 use Rattle.clap.specs.declared.parser.matches.ArgMatches.{ArgMatches}
 use Rattle.command_words.specs.Clap.{Found}
 use Rattle.command_words.proofs.Walks.{from_none}
@@ -94,12 +94,6 @@ pub same_texts : (xs ys : Text) → false ≡ bytes_eq xs ys → xs ≡ ys → �
 same_texts xs ys differs e =
     let yes : bytes_eq xs ys ≡ true = (bytes_eq-Decides xs ys).1 e in
     cc
-
-pub stands : (words : List Text) (settings : Settings) (m : ArgMatches) → (with_answers : Bool) × (text : Option Text) × Give words with_answers text × Found m with_answers text
-    → ((b : Bool) → one_text (found_of m) (codes "answers") ≡ Some (answers_text b) → settings.answers ≡ b) → IsRounds (first_value (found_of m) (codes "rounds")) settings.rounds → StandFor words settings
-stands words settings m given flag number =
-    let found = given.3 in
-    (given.1, subst (λ b. Give words b given.1) (sym (flag given.0 found.answers_are)) given.2, subst (λ t. IsRounds t settings.rounds) found.rounds_are number)
 
 -- the number of the matches is that for which the words stand
 pub stands_not : (words : List Text) (m : ArgMatches) → ((with_answers : Bool) (text : Option Text) → Give words with_answers text → IsValueText text → Found m with_answers text)
