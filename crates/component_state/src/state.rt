@@ -6,6 +6,7 @@ ghost use Rattle.component_meaning.specs.State.{start};
 use crate::keys::Keys;
 use crate::spelling::Spelling;
 use component_blocks::{Blocks, Declaration, Fields};
+use component_items::Items;
 use grammar::Stack;
 use std::alloc::Global;
 use std::marker::Model;
@@ -91,5 +92,13 @@ impl ComponentState {
             operands: Stack::new(alloc),
             tokens: 0,
         })
+    }
+    /// The texts and the items that were read.
+    pub fn finish(self) -> (Texts, Items)
+        ensures texts { result.0 ≡ self.texts }
+        ensures items { result.1 ≡ self.items }
+    {
+        let ComponentState { texts, blocks, .. } = self;
+        (texts, blocks.finish())
     }
 }

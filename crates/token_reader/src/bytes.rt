@@ -32,7 +32,7 @@ fn past(place: Place, byte: u8) -> Place
 }
 
 /// The place of the byte at an offset.
-fn place_at(bytes: &[u8], offset: usize, first_line: u32) -> Place
+pub fn place_at(bytes: &[u8], offset: usize, first_line: u32) -> Place
     requires within { offset ≤ length bytes.now }
     requires length { length bytes.now + first_line < 2 ^ 31 }
     ensures line { result.line ≡ line_at first_line bytes.now offset }

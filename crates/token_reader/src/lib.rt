@@ -6,7 +6,7 @@ mod bytes;
 mod reader;
 mod state;
 
-pub use bytes::read_bytes;
+pub use bytes::{place_at, read_bytes};
 pub use reader::read;
 pub use state::TextState;
 
