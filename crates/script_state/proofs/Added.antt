@@ -1,5 +1,5 @@
 -- Where a text stands among those of a component and those that a script adds.
-use Rattle.std.proofs.Common.{◌≡◌, ℕ, suc, ◌+◌, ◌-◌, ◌<◌, Bool, true, false, if◌then◌else◌, Option, Some, None, is_some, unwrap_or, option_map, List, [], ◌∷◌, ◌++◌, length, drop, slice_get, refl, sym, ap, subst, ◌∙◌, append_assoc, length-append, arith}
+use Rattle.std.proofs.Common.{◌≡◌, ℕ, zero, suc, ◌+◌, ◌-◌, ◌<◌, Bool, true, false, if◌then◌else◌, Option, Some, None, is_some, unwrap_or, option_map, List, [], ◌∷◌, ◌++◌, length, drop, slice_get, refl, sym, ap, subst, ◌∙◌, append_assoc, length-append, arith}
 use Rattle.std.specs.Str.{IsUtf8, bytes_eq}
 use Rattle.values.specs.Texts.{index_of, with_text, IsTable}
 use Rattle.values.proofs.TextsLemmas.{IsTable-added, index_of-added}
@@ -149,3 +149,48 @@ module _ (t : List ℕ) (base added new : List (List ℕ)) (is : IsAdded base ad
 
 pub few_both : (base added : List (List ℕ)) → IsAdded base added → (length (both base added) ≡ 65536 → ⊥) → length (both base added) < 65536
 few_both base added is other = omega (arith, is.whole.bounded)
+
+-- ---- the texts by number
+
+get-front : {X : Type 0} (xs ys : List X) (i : ℕ) → i < length xs → slice_get (xs ++ ys) i ≡ slice_get xs i
+get-front [] ys i h = absurd (omega arith)
+get-front (x ∷ xs) ys zero h = refl
+get-front (x ∷ xs) ys (suc i) h = get-front xs ys i (omega arith)
+
+get-behind : {X : Type 0} (xs ys : List X) (k : ℕ) → slice_get (xs ++ ys) (length xs + k) ≡ slice_get ys k
+get-behind [] ys k = let e : 0 + k ≡ k = omega arith in rw e refl
+get-behind (x ∷ xs) ys k = let e : length (x ∷ xs) + k ≡ suc (length xs + k) = omega arith in rw e (get-behind xs ys k)
+
+get-drop : (added : List (List ℕ)) (k : ℕ) → slice_get added 0 ≡ Some [] → slice_get (drop 1 added) k ≡ slice_get added (suc k)
+get-drop [] k first = cc
+get-drop (a ∷ more) k first = refl
+
+pub of_base : (base added : List (List ℕ)) (i : ℕ) → i < length base → slice_get (both base added) i ≡ slice_get base i
+of_base base added i within = get-front base (drop 1 added) i within
+
+pub of_added : (base added : List (List ℕ)) (i k : ℕ) → IsAdded base added → length base + k ≡ i → slice_get (both base added) i ≡ slice_get added (k + 1)
+of_added base added i k is at =
+    subst (λ j. slice_get (both base added) j ≡ slice_get added (k + 1)) at
+    (get-behind base (drop 1 added) k ∙ get-drop added k is.added_first ∙ ap (slice_get added) (omega arith))
+
+-- ---- the rest of a list, one item after another
+
+pub drop-next : {X : Type 0} (xs : List X) (i : ℕ) (x : X) → slice_get xs i ≡ Some x → drop i xs ≡ x ∷ drop (suc i) xs
+drop-next [] i x there = cc
+drop-next (y ∷ xs) zero x there = let same : y ≡ x = cc in ap (λ z. z ∷ xs) same
+drop-next (y ∷ xs) (suc i) x there = drop-next xs i x there
+
+next-suc : {X : Type 0} (xs : List X) (i : ℕ) → drop (i + 1) xs ≡ drop (suc i) xs
+next-suc xs i = let e : i + 1 ≡ suc i = omega arith in rw e refl
+
+pub copied_next : (texts more whole : List (List ℕ)) (i : ℕ) (t : List ℕ) → slice_get whole i ≡ Some t → more ≡ texts ++ t ∷ [] → more ++ drop (i + 1) whole ≡ texts ++ drop i whole
+copied_next texts more whole i t there adds =
+    ap (λ ts. ts ++ drop (i + 1) whole) adds
+    ∙ append_assoc texts (t ∷ []) (drop (i + 1) whole)
+    ∙ ap (λ rest. texts ++ (t ∷ rest)) (next-suc whole i)
+    ∙ ap (λ rest. texts ++ rest) (sym (drop-next whole i t there))
+
+pub some_within : {X : Type 0} (xs : List X) (i : ℕ) → i < length xs → slice_get xs i ≡ None → ⊥
+some_within [] i within none = omega arith
+some_within (x ∷ xs) zero within none = cc
+some_within (x ∷ xs) (suc i) within none = some_within xs i (omega arith) none

@@ -72,4 +72,13 @@ impl<'a> ScriptState<'a> {
             literal: Code::Empty,
         })
     }
+
+    /// The script that was read, and all texts.
+    pub fn into_parts(self) -> (Script, ScriptTexts<'a>)
+        ensures script { result.0 ≡ self.entry.phases }
+        ensures texts { result.1 ≡ self.entry.texts }
+    {
+        let ScriptState { script, texts, .. } = self;
+        (script, texts)
+    }
 }

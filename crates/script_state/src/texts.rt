@@ -1,7 +1,9 @@
 //! The texts of a script.
 
-ghost use Rattle.std.specs.Prelude.{◌≡◌, true, false, Ok, Err, length, IfOk, OnOk, IfErr, ◌↔◌};
-ghost use Rattle.values.specs.Texts.{index_of, with_text};
+ghost use Rattle.std.specs.Prelude.{◌≡◌, ◌+◌, ◌++◌, ◌<◌, ◌≤◌, true, false, Ok, Err, map, drop, slice_get, length, IfOk, OnOk, IfErr, ◌↔◌};
+ghost use Rattle.std.specs.Option.{option_copied};
+ghost use Rattle.std.specs.String.{string_bytes};
+ghost use Rattle.values.specs.Texts.{index_of, with_text, IsTable};
 ghost use Rattle.text_lexer.specs.Token.{IsTokenOf};
 ghost use Rattle.text_grammar.specs.declared.kind.Kind.TheVariants.{Text};
 ghost use Rattle.text_grammar.specs.Class.{is_same};
@@ -10,7 +12,7 @@ ghost use Rattle.component_meaning.specs.Names as names;
 ghost use Rattle.token_parts.specs.Parts.{RefusesText};
 
 use component_items::{Count, Refusal, Why};
-use std::alloc::Global;
+use std::alloc::{AllocError, Global};
 use std::marker::Model;
 use text_lexer::{Lexer, Token};
 use token_parts::{content, refused};
@@ -53,8 +55,9 @@ impl<'a> ScriptTexts<'a> {
     }
 
     /// How many texts there are.
-    fn len(&self) -> usize
-        ensures { result ≡ length self.now }
+    pub fn len(&self) -> usize
+        ensures count { result ≡ length self.now }
+        ensures table { IsTable self.now }
     {
         self.base.len() + self.added.len() - 1
     }
@@ -69,6 +72,40 @@ impl<'a> ScriptTexts<'a> {
         let number = self.added.find(text)?;
         let number = self.base.len() + number as usize - 1;
         Some(number as u32)
+    }
+
+    /// The text of this number.
+    pub fn get(&self, number: usize) -> Option<&str>
+        requires { number < length self.now }
+        ensures { option_copied result ≡ slice_get self.now number }
+    {
+        match number.checked_sub(self.base.len()) {
+            None => self.base.get(number as u32),
+            Some(behind) => self.added.get(behind as u32 + 1),
+        }
+    }
+
+    /// Copies of the texts from this number on.
+    pub fn copies(&self, alloc: Global, first: usize) -> Result<Vec<String>, AllocError>
+        requires { first ≤ length self.now }
+        ensures { IfOk result (λ texts. map string_bytes texts.items ≡ drop first self.now) }
+    {
+        let mut texts = Vec::new(alloc);
+        for number in first..self.len() {
+            self.push_copy(alloc, &mut texts, number)?;
+        }
+        Ok(texts)
+    }
+
+    /// Adds a copy of the text of this number.
+    fn push_copy(&self, alloc: Global, texts: &mut Vec<String>, number: usize) -> Result<(), AllocError>
+        requires { number < length self.now }
+        ensures { OnOk result (map string_bytes texts.new.items ++ drop (number + 1) self.now ≡ map string_bytes texts.old.items ++ drop number self.now) }
+    {
+        if let Some(text) = self.get(number) {
+            texts.push(String::from_str(alloc, text)?)?;
+        }
+        Ok(())
     }
 
     /// The number of the text, which is added at the end where it is none of them yet.
