@@ -46,12 +46,12 @@ impl ComponentState {
         requires { size self.old < 2 ^ 31 }
         ensures { OnOk result (self.new ≡ spec.perform action.MakeSignal self.old) }
     {
+        self.known_as(Kind::Signal)?;
         let signal = Item::Signal {
             id: self.next_id,
             name: self.name,
             start: self.literal,
         };
-        self.known_as(Kind::Signal)?;
         self.with_numbered(signal, 1)
     }
 
@@ -60,13 +60,13 @@ impl ComponentState {
         requires { size self.old < 2 ^ 31 }
         ensures { OnOk result (self.new ≡ spec.perform action.MakeMemo self.old) }
     {
+        self.known_as(Kind::Memo)?;
         let expr = self.take_whole();
         let memo = Item::Memo {
             id: self.next_id,
             name: self.name,
             expr,
         };
-        self.known_as(Kind::Memo)?;
         self.with_numbered(memo, 1)
     }
 
@@ -75,13 +75,13 @@ impl ComponentState {
         requires { size self.old < 2 ^ 31 }
         ensures { OnOk result (self.new ≡ spec.perform action.MakeEffect self.old) }
     {
+        self.known_as(Kind::Effect)?;
         let expr = self.take_whole();
         let effect = Item::Effect {
             id: self.next_id,
             name: self.name,
             expr,
         };
-        self.known_as(Kind::Effect)?;
         self.with_numbered(effect, 1)
     }
 
@@ -109,6 +109,7 @@ impl ComponentState {
         requires { size self.old < 2 ^ 31 }
         ensures { OnOk result (self.new ≡ spec.perform action.MakeResource self.old) }
     {
+        self.known_as(Kind::Resource)?;
         let keys = mem::replace(&mut self.keys, Keys::new(alloc));
         let values = mem::replace(&mut self.values, Codes::new(alloc));
         let resource = Item::Resource {
@@ -118,7 +119,6 @@ impl ComponentState {
             keys: keys.into_codes(),
             values,
         };
-        self.known_as(Kind::Resource)?;
         self.with_numbered(resource, 1)
     }
 
@@ -127,6 +127,7 @@ impl ComponentState {
         requires { size self.old < 2 ^ 31 }
         ensures { OnOk result (self.new ≡ spec.perform action.MakeLoad self.old) }
     {
+        self.known_as(Kind::Load)?;
         let key = self.take_whole();
         let load = Item::Load {
             id: self.next_id,
@@ -134,7 +135,6 @@ impl ComponentState {
             resource: self.used_id(),
             key,
         };
-        self.known_as(Kind::Load)?;
         self.with_numbered(load, 2)
     }
 
@@ -154,9 +154,11 @@ impl ComponentState {
         ensures { OnOk result (self.new ≡ spec.perform action.MakeStore self.old) }
     {
         let fields = mem::replace(&mut self.fields, Fields::new(alloc));
-        let starts = mem::replace(&mut self.values, Codes::new(alloc));
         let listed = fields.listed(alloc)?;
         let count = 2 + listed.len() as u32;
+        let fields = SharedFields::new(alloc, fields)?;
+        self.known_as(Kind::Store(fields))?;
+        let starts = mem::replace(&mut self.values, Codes::new(alloc));
         let store = Item::Store {
             id: self.next_id,
             name: self.name,
@@ -164,8 +166,6 @@ impl ComponentState {
             fields: listed,
             starts,
         };
-        let fields = SharedFields::new(alloc, fields)?;
-        self.known_as(Kind::Store(fields))?;
         self.with_numbered(store, count)
     }
 
