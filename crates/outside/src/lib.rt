@@ -15,7 +15,7 @@ pub use failing_loader::FailingLoader;
 pub use memory::{MemorySink, MemorySource};
 pub use std_streams::{StdSink, StdSource};
 pub use traits::{Arrival, Failed, Gate, Loader, Sink, Source};
-pub use transfer::{ReadError, put, read_up_to};
+pub use transfer::{ReadError, read_up_to};
 
 #[cfg(test)]
 mod tests;

@@ -2,7 +2,7 @@
 
 use crate::{
     Arrival, Delays, Failed, FailingLoader, Gate, Loader, MemorySink, MemorySource, OpenGate,
-    ReadError, Sink, Source, StdSink, StdSource, put, read_up_to,
+    ReadError, Sink, Source, StdSink, StdSource, read_up_to,
 };
 use std::io::{self, ErrorKind, Read, Write};
 use std::test::Fail;
@@ -41,19 +41,16 @@ fn memory_moves_pieces_and_fails_where_told(rt: HostRuntime) -> Result<(), Fail>
 }
 
 #[test]
-fn texts_pass_whole_up_to_a_limit(rt: HostRuntime) -> Result<(), Fail> {
+fn a_text_is_read_whole_up_to_a_limit(rt: HostRuntime) -> Result<(), Fail> {
     let alloc = rt.alloc();
-    let failed = Err(ReadError::Failed);
-    let table: [(usize, u32, Result<&[u8], ReadError>, &[u8]); 4] = [
-        (12, 9, Ok(b"twelve bytes"), b"twelve bytes"),
-        (11, 9, Ok(b"twelve bytes"), b"twelve bytes"),
-        (5, 9, Ok(b"twelve"), b"twelve bytes"),
-        (12, 2, failed, b"twelve "),
+    let table: [(usize, u32, Result<&[u8], ReadError>); 4] = [
+        (12, 9, Ok(b"twelve bytes")),
+        (11, 9, Ok(b"twelve bytes")),
+        (5, 9, Ok(b"twelve")),
+        (12, 2, Err(ReadError::Failed)),
     ];
-    for (limit, fail, read, written) in table {
-        let fails = vec![in alloc; fail]?;
-        let mut source = MemorySource::new(TEXT.to_vec(alloc)?, 7, fails.clone()?);
-        let mut sink = MemorySink::new(alloc, 12, 7, fails)?;
+    for (limit, fail, read) in table {
+        let mut source = MemorySource::new(TEXT.to_vec(alloc)?, 7, vec![in alloc; fail]?);
         let bytes = read_up_to(alloc, &mut source, limit);
         assert_eq!(rt;
             bytes
@@ -62,8 +59,6 @@ fn texts_pass_whole_up_to_a_limit(rt: HostRuntime) -> Result<(), Fail> {
                 .map_err(|error| *error),
             read
         );
-        assert_eq!(rt; put(&mut sink, TEXT).is_ok(), read.is_ok());
-        assert_eq!(rt; sink.bytes(), written);
     }
     Ok(())
 }

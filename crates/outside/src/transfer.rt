@@ -1,11 +1,11 @@
-//! Reading to the end of a source, and writing all of a text to a sink.
+//! Reading to the end of a source.
 
-ghost use Rattle.std.specs.Prelude.{◌≡◌, ◌+◌, ◌<◌, ◌≤◌, ◌++◌, length, take, IfOk, IfSome, OnOk, OnErr, vec_len};
-ghost use Rattle.std.specs.Io.KnownBytes.{Appends, Consumes};
-ghost use Rattle.outside.specs.Bytes.{AppendsPart, IsZeroAtEnd, LosesFront};
+ghost use Rattle.std.specs.Prelude.{◌≡◌, ◌+◌, ◌<◌, ◌≤◌, ◌++◌, length, take, IfOk, IfSome, OnErr, vec_len};
+ghost use Rattle.std.specs.Io.KnownBytes.{Consumes};
+ghost use Rattle.outside.specs.Bytes.{IsZeroAtEnd, LosesFront};
 ghost use Rattle.outside.specs.Counts.{NeverFalls, Rose};
 
-use crate::traits::{Failed, Sink, Source};
+use crate::traits::{Failed, Source};
 use std::alloc::{AllocError, Global};
 
 /// The most bytes that are asked of a source at once.
@@ -99,20 +99,4 @@ fn read_once<S: Source>(
     let count = source.read(buffer)?;
     bytes.extend_from_slice(&buffer[..count])?;
     Ok(count)
-}
-
-/// Writes all of the bytes to a sink, in as many calls as it wants. It takes no memory.
-pub fn put<K: Sink>(sink: &mut K, bytes: &[u8]) -> Result<(), Failed>
-    ensures appended { OnOk result (Appends (K.taken sink.old) (K.taken sink.new) bytes.now) }
-
-    ensures failed { OnErr result (Rose (K.faults sink.old) (K.faults sink.new)) }
-    ensures part { OnErr result (AppendsPart (K.taken sink.old) (K.taken sink.new) bytes.now) }
-
-    ensures counted { NeverFalls (K.faults sink.old) (K.faults sink.new) }
-{
-    let mut written = 0;
-    while written < bytes.len() {
-        written += sink.write(&bytes[written..])?;
-    }
-    Ok(())
 }
