@@ -12,14 +12,20 @@ use std::alloc::{AllocError, Global};
 pub enum Outcome {
     /// The page was written whole.
     Page,
-    /// The input is no text of a component: the number of the reason, and the place.
+    /// The words are not the command's.
+    BadWords,
+    /// The input is no text of a component and a script: the number of the reason, and the place.
     BadText(u8, Place),
+    /// The input has a form for which there is no page yet.
+    Unbuilt,
     /// A read of the source failed.
     ReadFault,
     /// A write to the sink failed. A part of the run's text was written.
     WriteFault,
     /// Memory could not be had.
     NoMemory,
+    /// The source holds more bytes than an input may have.
+    TooLong,
 }
 
 /// The end of a run: the exit status, and the outcome that it stands for.
@@ -37,10 +43,13 @@ impl Finish {
     {
         let status = match &outcome {
             Outcome::Page => 0,
+            Outcome::BadWords => 2,
             Outcome::BadText(_, _) => 3,
+            Outcome::Unbuilt => 20,
             Outcome::ReadFault => 5,
             Outcome::WriteFault => 6,
             Outcome::NoMemory => 7,
+            Outcome::TooLong => 8,
         };
         Finish { status, outcome }
     }

@@ -1,31 +1,39 @@
 //! The run of the program.
 
-ghost use Rattle.std.specs.Prelude.{◌≡◌, ◌≢◌, ℕ, List, IfOk, IfSome, Err};
-ghost use Rattle.std.specs.Io.KnownBytes.{Appends, IsAtEnd};
-ghost use Rattle.component_items.specs.declared.component.Component.{Component};
+ghost use Rattle.std.specs.Prelude.{◌≡◌, ◌≢◌, ◌≤◌, ◌<◌, ℕ, true, false, List, length, IfOk, IfSome, Err};
+ghost use Rattle.std.specs.Io.KnownBytes.{Appends};
+ghost use Rattle.command_words.specs.Words.{texts_of};
 ghost use Rattle.component_items.specs.declared.refusal.Place.{Place};
-ghost use Rattle.component_reader.specs.Component.{IsComponent};
 ghost use Rattle.outside.specs.Bytes.{AppendsPart};
 ghost use Rattle.outside.specs.Counts.{Rose};
 ghost use Rattle.outside.specs.declared.transfer.ReadError.{ReadError};
-ghost use Rattle.plain_evaluation.specs.Page.{page_of};
 ghost use Rattle.page_program.specs.declared.finish.Outcome.{Outcome};
 ghost use Rattle.page_program.specs.Outcome.{status_of, line_of};
-ghost use Rattle.page_program.specs.Run.{Reading, IsDue, first_place};
+ghost use Rattle.page_program.specs.Run.{Reading, Input, Means, IsBad, GivesEnd, GivesTooMany, IsDue, IsReadDue, IsOr, IsReadOr, StandForNone, StandForSome, first_page, is_built};
+ghost use Rattle.values.specs.declared.limits.TheConstants.{MOST_INPUT_BYTES};
 
 use crate::answer::answer;
 use crate::finish::{Finish, Outcome};
-use component_reader::MAX_BYTES;
-use outside::{Gate, Loader, ReadError, Sink, Source, put, read_up_to};
+use command_words::{WordsError, read_words};
+use html_out::put;
+use outside::{Gate, Loader, ReadError, Sink, Source, read_up_to};
 use std::alloc::Global;
 use values::NoMemory;
+use values::limits::MOST_INPUT_BYTES;
 
-/// The outcome of the input, and the text that it writes. All memory that the output needs is taken here.
+/// The line of words that are not the command's.
+const USAGE: &[u8] = b"usage: page [-a] [--rounds N] | page big N\n";
+
+/// The outcome of what the source gives, and the text that it writes. All memory that the output needs is
+/// taken here.
 fn prepared<S: Source>(alloc: Global, source: &mut S) -> Result<(Outcome, Vec<u8>), ReadError>
-    ensures due { IfOk result (λ p. IsDue (record { held = S.held source.old; left = S.held source.new; faults = S.faults source.old; faults_after = S.faults source.new }) p.0 p.1.items) }
+    ensures due { IfOk result (λ p. IsReadDue (record { held = S.held source.old; left = S.held source.new; faults = S.faults source.old; faults_after = S.faults source.new }) p.0 p.1.items) }
     ensures failed { result ≡ Err ReadError.Failed → Rose (S.faults source.old) (S.faults source.new) }
 {
-    let bytes = read_up_to(alloc, source, MAX_BYTES)?;
+    let bytes = read_up_to(alloc, source, MOST_INPUT_BYTES)?;
+    if bytes.len() > MOST_INPUT_BYTES {
+        return Ok((Outcome::TooLong, Vec::from_slice(alloc, b"too long\n")?));
+    }
     match answer(alloc, &bytes) {
         Ok(found) => Ok(found),
         Err(NoMemory) => Err(ReadError::NoMemory),
@@ -44,14 +52,14 @@ fn written<K: Sink>(sink: &mut K, outcome: Outcome, text: &[u8]) -> Finish
     }
 }
 
-/// The run over a source and a sink.
-fn run<S: Source, K: Sink>(alloc: Global, source: &mut S, sink: &mut K) -> Finish
+/// The run behind the words, over a source and a sink.
+fn read_and_written<S: Source, K: Sink>(alloc: Global, source: &mut S, sink: &mut K) -> Finish
     ensures status { result.status ≡ status_of result.outcome }
     ensures written { let reading : Reading = record { held = S.held source.old; left = S.held source.new; faults = S.faults source.old; faults_after = S.faults source.new } in
-        result.outcome ≢ Outcome.WriteFault → (text : List ℕ) × IsDue reading result.outcome text × Appends (K.taken sink.old) (K.taken sink.new) text }
+        result.outcome ≢ Outcome.WriteFault → (text : List ℕ) × IsReadDue reading result.outcome text × Appends (K.taken sink.old) (K.taken sink.new) text }
     ensures write_fault { let reading : Reading = record { held = S.held source.old; left = S.held source.new; faults = S.faults source.old; faults_after = S.faults source.new } in
         result.outcome ≡ Outcome.WriteFault → Rose (K.faults sink.old) (K.faults sink.new)
-        × (due : Outcome) × (text : List ℕ) × IsDue reading due text × AppendsPart (K.taken sink.old) (K.taken sink.new) text }
+        × (due : Outcome) × (text : List ℕ) × IsReadDue reading due text × AppendsPart (K.taken sink.old) (K.taken sink.new) text }
 {
     match prepared(alloc, source) {
         Ok((outcome, text)) => written(sink, outcome, &text),
@@ -60,16 +68,34 @@ fn run<S: Source, K: Sink>(alloc: Global, source: &mut S, sink: &mut K) -> Finis
     }
 }
 
-/// Reads a component text from the source to its end, and writes its page to the sink. The words, the
-/// loader and the gate are not looked at yet.
+/// The run by its words, over a source and a sink.
+fn run<S: Source, K: Sink>(alloc: Global, words: &[String], source: &mut S, sink: &mut K) -> Finish
+    ensures status { result.status ≡ status_of result.outcome }
+    ensures unread { result.outcome ≡ Outcome.BadWords → source.new ≡ source.old }
+    ensures written { let reading : Reading = record { held = S.held source.old; left = S.held source.new; faults = S.faults source.old; faults_after = S.faults source.new } in
+        result.outcome ≢ Outcome.WriteFault → (text : List ℕ) × IsDue (texts_of words.now) reading result.outcome text × Appends (K.taken sink.old) (K.taken sink.new) text }
+    ensures write_fault { let reading : Reading = record { held = S.held source.old; left = S.held source.new; faults = S.faults source.old; faults_after = S.faults source.new } in
+        result.outcome ≡ Outcome.WriteFault → Rose (K.faults sink.old) (K.faults sink.new)
+        × (due : Outcome) × (text : List ℕ) × IsDue (texts_of words.now) reading due text × AppendsPart (K.taken sink.old) (K.taken sink.new) text }
+{
+    match read_words(alloc, words) {
+        Ok(_) => read_and_written(alloc, source, sink),
+        Err(WordsError::BadWords) => written(sink, Outcome::BadWords, USAGE),
+        Err(WordsError::NoMemory) => written(sink, Outcome::NoMemory, b"no memory\n"),
+    }
+}
+
+/// Reads an input from the source to its end, and writes its page to the sink (`docs/SEMANTICS.md`). The
+/// loader and the gate are not looked at yet, and of the words whether they are the command's.
 ///
-/// Each outcome but `NoMemory` has its cause in the clauses, so that where the source and the sink have no
-/// fault and memory is there, the page is written exactly where the source's bytes are the text of a
-/// component (`docs/LANGUAGE.md`), and they are refused exactly where they are none.
+/// The words come first, then the source, then the input, then the page, and the first of these that fails
+/// gives the outcome. Each outcome comes exactly where its clauses say, but that a failed write may take its
+/// place, want of memory too, and behind the words a failed read. What is said of the source's bytes is said
+/// of a source that tells them.
 pub fn page<R, S: Source, K: Sink, L: Loader, G: Gate>(
     _rt: &R,
     alloc: Global,
-    _words: &[String],
+    words: &[String],
     source: &mut S,
     sink: &mut K,
     _loader: &mut L,
@@ -77,15 +103,35 @@ pub fn page<R, S: Source, K: Sink, L: Loader, G: Gate>(
 ) -> Finish
     ensures status { result.status ≡ status_of result.outcome }
 
-    // The source was read to its end, its bytes are the text of a component, and the sink has taken exactly
-    // the component's page by plain evaluation.
-    ensures page { result.outcome ≡ Outcome.Page → (component : Component)
-        × IfSome (S.held source.old) (λ bytes. IsComponent bytes component × IsAtEnd (S.held source.new))
-        × Appends (K.taken sink.old) (K.taken sink.new) (page_of component) }
+    // The words stand for no settings. The source was not read.
+    ensures bad_words { result.outcome ≡ Outcome.BadWords → StandForNone (texts_of words.now) × (source.new ≡ source.old) }
+    ensures words_refused { StandForNone (texts_of words.now) → IsOr Outcome.BadWords result.outcome }
 
-    // The bytes are the text of no component. The reason and the place are the same for all.
-    ensures bad_text { (kind : ℕ) (place : Place) → result.outcome ≡ Outcome.BadText kind place →
-        IfSome (S.held source.old) (λ bytes. (component : Component) → IsComponent bytes component → ⊥) × (kind ≡ 3) × (place ≡ first_place) }
+    // The source gave one byte more than an input may have.
+    ensures too_long { let reading : Reading = record { held = S.held source.old; left = S.held source.new; faults = S.faults source.old; faults_after = S.faults source.new } in
+        result.outcome ≡ Outcome.TooLong → GivesTooMany reading }
+    ensures longer_refused { StandForSome (texts_of words.now) → IfSome (S.held source.old) (λ bytes.
+        MOST_INPUT_BYTES < length bytes → IsReadOr Outcome.TooLong result.outcome) }
+
+    // The source gave its end, and its bytes are no input: the number of the reason, and the place.
+    ensures bad_text { let reading : Reading = record { held = S.held source.old; left = S.held source.new; faults = S.faults source.old; faults_after = S.faults source.new } in
+        (kind : ℕ) (place : Place) → result.outcome ≡ Outcome.BadText kind place → GivesEnd reading (λ bytes. IsBad bytes kind place) }
+    ensures text_refused { StandForSome (texts_of words.now) → IfSome (S.held source.old) (λ bytes. length bytes ≤ MOST_INPUT_BYTES →
+        (kind : ℕ) (place : Place) → IsBad bytes kind place → IsReadOr (Outcome.BadText kind place) result.outcome) }
+
+    // The source gave its end, its bytes are an input, and that has a form for which there is no page yet.
+    ensures unbuilt { let reading : Reading = record { held = S.held source.old; left = S.held source.new; faults = S.faults source.old; faults_after = S.faults source.new } in
+        result.outcome ≡ Outcome.Unbuilt → (input : Input) × GivesEnd reading (λ bytes. Means bytes input) × (is_built input ≡ false) }
+    ensures input_unbuilt { StandForSome (texts_of words.now) → IfSome (S.held source.old) (λ bytes. length bytes ≤ MOST_INPUT_BYTES →
+        (input : Input) → Means bytes input → is_built input ≡ false → IsReadOr Outcome.Unbuilt result.outcome) }
+
+    // The source gave its end, its bytes are an input, and the sink has taken exactly the page of that by plain
+    // evaluation.
+    ensures page { let reading : Reading = record { held = S.held source.old; left = S.held source.new; faults = S.faults source.old; faults_after = S.faults source.new } in
+        result.outcome ≡ Outcome.Page → (input : Input) × GivesEnd reading (λ bytes. Means bytes input) × (is_built input ≡ true)
+        × Appends (K.taken sink.old) (K.taken sink.new) (first_page input) }
+    ensures input_written { StandForSome (texts_of words.now) → IfSome (S.held source.old) (λ bytes. length bytes ≤ MOST_INPUT_BYTES →
+        (input : Input) → Means bytes input → is_built input ≡ true → IsReadOr Outcome.Page result.outcome) }
 
     // A read failed in this call.
     ensures read_fault { result.outcome ≡ Outcome.ReadFault → Rose (S.faults source.old) (S.faults source.new) }
@@ -95,10 +141,9 @@ pub fn page<R, S: Source, K: Sink, L: Loader, G: Gate>(
         Appends (K.taken sink.old) (K.taken sink.new) (line_of result.outcome) }
 
     // A write failed in this call, and a part of the text of the outcome that was due was written.
-    ensures write_fault { result.outcome ≡ Outcome.WriteFault → Rose (K.faults sink.old) (K.faults sink.new)
-        × (due : Outcome) × (text : List ℕ)
-        × IsDue (record { held = S.held source.old; left = S.held source.new; faults = S.faults source.old; faults_after = S.faults source.new }) due text
-        × AppendsPart (K.taken sink.old) (K.taken sink.new) text }
+    ensures write_fault { let reading : Reading = record { held = S.held source.old; left = S.held source.new; faults = S.faults source.old; faults_after = S.faults source.new } in
+        result.outcome ≡ Outcome.WriteFault → Rose (K.faults sink.old) (K.faults sink.new)
+        × (due : Outcome) × (text : List ℕ) × IsDue (texts_of words.now) reading due text × AppendsPart (K.taken sink.old) (K.taken sink.new) text }
 {
-    run(alloc, source, sink)
+    run(alloc, words, source, sink)
 }
