@@ -9,6 +9,7 @@ use Rattle.component_items.specs.declared.refusal.Refusal.{Refusal}
 use Rattle.component_items.specs.declared.refusal.Refusal.TheVariants.{Bad}
 use Rattle.component_items.specs.declared.refusal.Why.{Why}
 use Rattle.component_meaning.specs.Component.{IsComponent, IsNoComponent}
+use Rattle.component_reader.specs.Answer.{IsNoComponentOr}
 use Rattle.input_split.specs.declared.Split.{Split}
 use Rattle.input_split.specs.Parts.{IsSplit}
 use Rattle.script_items.specs.declared.operation.ScriptOp.{ScriptOp}
@@ -29,8 +30,8 @@ abbrev pub Refused : List ℕ → Refusal → Type 0
 Refused bytes e = (why : Why) (place : Place) → e ≡ Bad why place → IsBadInput bytes (Bad why place)
 
 pub refused_component : (bytes part : List ℕ) (split : Split) (e : Refusal) → IsSplit bytes split → part ≡ component_part bytes split
-    → ((why : Why) (place : Place) → e ≡ Bad why place → IsNoComponent part (Bad why place)) → Refused bytes e
-refused_component bytes part split e is same bad = λ why place refused. bad_component split is (subst (λ b. IsNoComponent b (Bad why place)) same (bad why place refused))
+    → IsNoComponentOr part e → Refused bytes e
+refused_component bytes part split e is same bad = λ why place refused. bad_component split is (subst (λ b. IsNoComponent b (Bad why place)) same (subst (IsNoComponentOr part) refused bad))
 
 pub refused_script : (bytes part rest : List ℕ) (split : Split) (e : Refusal) (component : Component) → IsSplit bytes split → part ≡ component_part bytes split → rest ≡ script_part bytes split
     → IsComponent part component → ((why : Why) (place : Place) → e ≡ Bad why place → IsNoScript component split.script_line rest (Bad why place)) → Refused bytes e
