@@ -15,6 +15,7 @@ use Rattle.input_split.specs.Parts.{IsSplit}
 use Rattle.script_items.specs.declared.operation.ScriptOp.{ScriptOp}
 use Rattle.script_meaning.specs.Input.{IsInput, IsBadInput, bad_component, bad_script, component_part, script_part}
 use Rattle.script_meaning.specs.Script.{IsScript, IsNoScript}
+use Rattle.script_reader.specs.Reads.{IsNoScriptOr}
 use Rattle.page_program.specs.Run.{Input, IsReadAs}
 
 -- what stands from an offset on
@@ -34,9 +35,9 @@ pub refused_component : (bytes part : List ℕ) (split : Split) (e : Refusal) �
 refused_component bytes part split e is same bad = λ why place refused. bad_component split is (subst (λ b. IsNoComponent b (Bad why place)) same (subst (IsNoComponentOr part) refused bad))
 
 pub refused_script : (bytes part rest : List ℕ) (split : Split) (e : Refusal) (component : Component) → IsSplit bytes split → part ≡ component_part bytes split → rest ≡ script_part bytes split
-    → IsComponent part component → ((why : Why) (place : Place) → e ≡ Bad why place → IsNoScript component split.script_line rest (Bad why place)) → Refused bytes e
+    → IsComponent part component → IsNoScriptOr component split.script_line rest e → Refused bytes e
 refused_script bytes part rest split e component is same same_rest read bad = λ why place refused.
-    bad_script split is component (subst (λ b. IsComponent b component) same read) (subst (λ b. IsNoScript component split.script_line b (Bad why place)) same_rest (bad why place refused))
+    bad_script split is component (subst (λ b. IsComponent b component) same read) (subst (λ b. IsNoScript component split.script_line b (Bad why place)) same_rest (subst (IsNoScriptOr component split.script_line rest) refused bad))
 
 made : List (List ℕ) → List Item → Component
 made texts items = record { texts = texts; items = items }
