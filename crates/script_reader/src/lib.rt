@@ -5,3 +5,6 @@ mod reader;
 mod texts;
 
 pub use reader::read_script;
+
+#[cfg(test)]
+mod tests;

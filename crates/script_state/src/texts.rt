@@ -98,7 +98,12 @@ impl<'a> ScriptTexts<'a> {
     }
 
     /// Adds a copy of the text of this number.
-    fn push_copy(&self, alloc: Global, texts: &mut Vec<String>, number: usize) -> Result<(), AllocError>
+    fn push_copy(
+        &self,
+        alloc: Global,
+        texts: &mut Vec<String>,
+        number: usize,
+    ) -> Result<(), AllocError>
         requires { number < length self.now }
         ensures { OnOk result (map string_bytes texts.new.items ++ drop (number + 1) self.now ≡ map string_bytes texts.old.items ++ drop number self.now) }
     {
