@@ -15,3 +15,5 @@ pub mod PageLemmas
 pub mod Every
 pub mod Told
 pub mod Origins
+pub mod Goings
+pub mod KilledLemmas

@@ -10,3 +10,4 @@ pub mod Fits
 pub mod Rows
 pub mod Begins
 pub mod Origins
+pub mod Killed

@@ -69,6 +69,12 @@ inside = record {
 abbrev pub inner_dead : Held
 inner_dead = record { holdings = nothing ∷ value (number 1) ∷ nothing ∷ nothing ∷ nothing ∷ nothing ∷ []; live = true ∷ true ∷ false ∷ [] }
 
+abbrev pub outer_dead : Held
+outer_dead = record { holdings = nothing ∷ nothing ∷ nothing ∷ nothing ∷ nothing ∷ nothing ∷ []; live = true ∷ false ∷ false ∷ [] }
+
+abbrev pub all_dead : Held
+all_dead = record { holdings = nothing ∷ nothing ∷ nothing ∷ nothing ∷ nothing ∷ nothing ∷ []; live = false ∷ false ∷ false ∷ [] }
+
 -- component 1|store items max 4 { title = "" }|<ul>each items {<li>{row.title}</li>}</ul>
 abbrev pub titles : Component
 titles = record {
@@ -89,6 +95,9 @@ chosen = record {
 -- with the signal, and with two rows
 abbrev pub chosen_held : ℕ → Held
 chosen_held on = record { holdings = nothing ∷ value (number on) ∷ stored (rows_of 2 1 (store_row (number 1) (Word 6 ∷ []) ∷ store_row (number 2) (Word 7 ∷ []) ∷ [])) ∷ nothing ∷ nothing ∷ nothing ∷ nothing ∷ nothing ∷ nothing ∷ []; live = true ∷ true ∷ [] }
+
+abbrev pub chosen_dead : Held
+chosen_dead = record { holdings = nothing ∷ nothing ∷ nothing ∷ nothing ∷ nothing ∷ nothing ∷ nothing ∷ nothing ∷ nothing ∷ []; live = true ∷ false ∷ [] }
 
 -- component 1|resource user after 2 { 1 => "Ann" }|signal id = 1|load who = user(id)|<p>{who}</p>
 abbrev pub who : Component

@@ -1,5 +1,5 @@
 //! Laws of the definitions. Each is the contract of a function that does nothing.
-ghost use Rattle.std.specs.Prelude.{◌≡◌, ◌≤◌, length};
+ghost use Rattle.std.specs.Prelude.{◌≡◌, ℕ, ◌≤◌, length};
 ghost use Rattle.values.specs.declared.limits.TheConstants.{MOST_NODES};
 ghost use Rattle.component_items.specs.declared.component.Component.{Component as ComponentValue};
 ghost use Rattle.component_items.specs.Kept.{IsKept};
@@ -7,6 +7,7 @@ ghost use Rattle.plain_evaluation.specs.Begins.{Begins};
 ghost use Rattle.plain_evaluation.specs.Fits.{Fits, RowsFit};
 ghost use Rattle.plain_evaluation.specs.Held.{Held, first_held};
 ghost use Rattle.plain_evaluation.specs.Keyed.{is_keyed};
+ghost use Rattle.plain_evaluation.specs.Killed.{killed};
 ghost use Rattle.plain_evaluation.specs.Origins.{origin_in, origin_of};
 ghost use Rattle.plain_evaluation.specs.Sound.{Among, IsSound, SolvesItsEquations, ReadsStandBefore};
 ghost use Rattle.plain_evaluation.specs.Written.{State, Written, state_of, written_in};
@@ -52,4 +53,9 @@ pub fn fitting_state_has_fitting_rows()
 /// store around it, one kind and one expression.
 pub fn places_have_origins()
     ensures { (component : ComponentValue) (state : State) → IsKept component → RowsFit component state → (w : Written) → Among (written_in component state) w → origin_in component w.id ≡ origin_of w }
+{}
+
+/// A disposal keeps the fit.
+pub fn killed_state_fits()
+    ensures { (component : ComponentValue) (held : Held) (owner : ℕ) → Fits component held → Fits component (killed component owner held) }
 {}

@@ -4,9 +4,10 @@ ghost use Rattle.std.specs.Fmt.{signed_decimal};
 ghost use Rattle.values.specs.declared.code.Code.TheVariants.{Word};
 ghost use Rattle.plain_evaluation.specs.Fits.{Fits};
 ghost use Rattle.plain_evaluation.specs.Held.{first_held};
+ghost use Rattle.plain_evaluation.specs.Killed.{killed};
 ghost use Rattle.plain_evaluation.specs.Page.{page_of};
 ghost use Rattle.plain_evaluation.specs.Place.{outside, of_row};
-ghost use Rattle.plain_evaluation.specs.Rows.{number, product, ends, escapes, marks, side, side_dead, inside, inner_dead, titles, titles_held, chosen, chosen_held, who, who_held, mails, mails_held, todos, todos_held};
+ghost use Rattle.plain_evaluation.specs.Rows.{number, product, ends, escapes, marks, side, side_dead, inside, inner_dead, outer_dead, all_dead, titles, titles_held, chosen, chosen_held, chosen_dead, who, who_held, mails, mails_held, todos, todos_held};
 ghost use Rattle.plain_evaluation.specs.Scratch.{scratch, pending};
 ghost use Rattle.plain_evaluation.specs.Written.{written, place_of};
 
@@ -72,4 +73,14 @@ pub fn page_of_todos()
 /// State fits a component: what the laws ask can be met.
 pub fn state_fits()
     ensures { Fits titles titles_held }
+{}
+
+/// Disposals: an inner area, the same again, the outer one, all, and one with a store.
+pub fn disposals()
+    ensures inner { killed inside 2 (first_held inside) ≡ inner_dead }
+    ensures again { killed inside 2 inner_dead ≡ inner_dead }
+    ensures outer { killed inside 1 (first_held inside) ≡ outer_dead }
+    ensures outer_later { killed inside 1 inner_dead ≡ outer_dead }
+    ensures top { killed inside 0 (first_held inside) ≡ all_dead }
+    ensures store { killed chosen 1 (chosen_held 1) ≡ chosen_dead }
 {}
