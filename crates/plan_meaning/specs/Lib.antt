@@ -1,0 +1,4 @@
+pub mod Renamed
+pub mod Owners
+pub mod Layout
+pub mod Carried
