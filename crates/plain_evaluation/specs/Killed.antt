@@ -97,24 +97,24 @@ killed component owner held = without (going_with component owner) held
 abbrev pub nest_all : List (Bool → Bool) → Bool → Bool
 nest_all items around = list_all (λ item. item around) items
 
--- one item, where `around` says whether the owner around it is live
-abbrev pub nests_step : Held → Item-F (Bool → Bool) → Bool → Bool
-nests_step held (level.Signal id name start) around = true
-nests_step held (level.Memo id name expr) around = true
-nests_step held (level.Effect id name expr) around = true
-nests_step held (level.Resource id name after keys values) around = true
-nests_step held (level.Load id name resource key) around = true
-nests_step held (level.Store id name max fields starts) around = true
-nests_step held (level.Cleanup text) around = true
-nests_step held (level.Area id name owner items) around = (around || not (is_live held owner)) && nest_all items (is_live held owner)
-nests_step held (level.If id cond items) around = nest_all items around
-nests_step held (level.Each id store items) around = nest_all items around
-nests_step held (level.Element tag closed attrs items) around = nest_all items around
-nests_step held (level.Text text) around = true
-nests_step held (level.Shown id expr) around = true
+-- one item, where `live` says which owners are live, and `around` whether the one around the item is
+abbrev pub nests_step : (ℕ → Bool) → Item-F (Bool → Bool) → Bool → Bool
+nests_step live (level.Signal id name start) around = true
+nests_step live (level.Memo id name expr) around = true
+nests_step live (level.Effect id name expr) around = true
+nests_step live (level.Resource id name after keys values) around = true
+nests_step live (level.Load id name resource key) around = true
+nests_step live (level.Store id name max fields starts) around = true
+nests_step live (level.Cleanup text) around = true
+nests_step live (level.Area id name owner items) around = (around || not (live owner)) && nest_all items (live owner)
+nests_step live (level.If id cond items) around = nest_all items around
+nests_step live (level.Each id store items) around = nest_all items around
+nests_step live (level.Element tag closed attrs items) around = nest_all items around
+nests_step live (level.Text text) around = true
+nests_step live (level.Shown id expr) around = true
 
-unfoldable pub item_nests : Held → Item → Bool → Bool
-item_nests held = fold-Item (Bool → Bool) (nests_step held)
+unfoldable pub item_nests : (ℕ → Bool) → Item → Bool → Bool
+item_nests live = fold-Item (Bool → Bool) (nests_step live)
 
 pub record OwnersFit (component : Component) (held : Held) : Type 0 where
-  pub areas : list_all (λ item. item_nests held item (is_live held 0)) component.items ≡ true
+  pub areas : list_all (λ item. item_nests (is_live held) item (is_live held 0)) component.items ≡ true

@@ -11,3 +11,4 @@ pub mod Rows
 pub mod Begins
 pub mod Origins
 pub mod Killed
+pub mod Changed
