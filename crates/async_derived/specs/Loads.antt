@@ -2,6 +2,8 @@
 use Rattle.std.specs.Prelude.{ℕ, ◌+◌, ◌-◌, ◌^◌, min, Bool, false, nat_le, if◌then◌else◌, Option, Some, None}
 use Rattle.values.specs.declared.code.Code.{Code}
 use Rattle.values.specs.Evaluation.{is_same}
+use Rattle.outside.specs.declared.traits.Arrival.{Arrival}
+use Rattle.outside.specs.declared.traits.Arrival.TheVariants.{Ready, NotYet, Failed as Fault}
 use Rattle.async_derived.specs.declared.loading.Loading.{Loading}
 use Rattle.async_derived.specs.declared.loading.Polled.{Polled}
 use Rattle.async_derived.specs.declared.loading.Polled.TheVariants.{Arrived, Waiting, Failed}
@@ -32,6 +34,12 @@ after_ask load key Failed = record { key = load.key; arrived = load.arrived; ask
 -- the load after a poll: nothing is asked where the key has arrived
 abbrev pub after_poll : Loading → Code → Polled → Loading
 after_poll load key polled = if is_key load.arrived key then load else after_ask (keyed load key) key polled
+
+-- what a loader answered, of what came of the ask
+abbrev pub answer_of : Polled → Arrival
+answer_of Arrived = Ready
+answer_of Waiting = NotYet
+answer_of Failed = Fault
 
 -- what comes of an ask of a prompt loader
 abbrev pub prompt_ask : ℕ → ℕ → Polled

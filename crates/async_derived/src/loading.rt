@@ -2,7 +2,7 @@
 ghost use Rattle.std.specs.Prelude.{◌≡◌, ◌↔◌, None, Some};
 ghost use Rattle.std.specs.Bool.{OnTrue};
 ghost use Rattle.outside.specs.Counts.{NeverFalls, Rose};
-ghost use Rattle.async_derived.specs.Loads.{is_key, keyed, after_ask, after_poll, prompt_ask, prompt_poll};
+ghost use Rattle.async_derived.specs.Loads.{is_key, keyed, after_ask, after_poll, answer_of, prompt_ask, prompt_poll};
 
 use outside::{Arrival, Loader};
 use values::Code;
@@ -57,6 +57,9 @@ impl Loading {
         ensures state { self.new ≡ after_poll self.old key result }
         ensures arrived { (result ≡ Polled.Arrived) ↔ (self.new.arrived ≡ Some key) }
         ensures unasked { self.old.arrived ≡ Some key → loader.new ≡ loader.old }
+        ensures asked { ¬ (self.old.arrived ≡ Some key) → L.answers loader.old
+            (record { resource = resource; key = key; after = after; asked = (keyed self.old key).asked })
+            (answer_of result) loader.new }
 
         ensures waiting { result ≡ Polled.Waiting → Rose (L.not_yets loader.old) (L.not_yets loader.new) }
         ensures failed { result ≡ Polled.Failed → Rose (L.faults loader.old) (L.faults loader.new) }
@@ -89,6 +92,9 @@ impl Loading {
     /// Asks, whatever has arrived.
     fn ask<L: Loader>(&mut self, key: Code, resource: u32, after: u32, loader: &mut L) -> Polled
         ensures state { self.new ≡ after_ask self.old key result }
+        ensures asked { L.answers loader.old
+            (record { resource = resource; key = key; after = after; asked = self.old.asked })
+            (answer_of result) loader.new }
 
         ensures waiting { result ≡ Polled.Waiting → Rose (L.not_yets loader.old) (L.not_yets loader.new) }
         ensures failed { result ≡ Polled.Failed → Rose (L.faults loader.old) (L.faults loader.new) }

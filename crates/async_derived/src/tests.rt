@@ -29,13 +29,15 @@ struct Telling {
 }
 
 impl Loader for Telling {
-    ghost use Rattle.std.specs.Prelude.{false};
+    ghost use Rattle.std.specs.Prelude.{◌≡◌, false};
 
     ghost faults = { λ l. l.faults };
 
     ghost not_yets = { λ l. l.not_yets };
 
     ghost is_prompt = { false };
+
+    ghost answers = { λ before _ answer _. answer ≡ before.answer };
 
     fn ask(&mut self, resource: u32, key: Code, after: u32, asked: u32) -> Arrival {
         self.last = Some(Asked {

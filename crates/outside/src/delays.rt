@@ -35,12 +35,15 @@ impl Delays {
 
 impl Loader for Delays {
     ghost use Rattle.std.specs.Prelude.{true};
+    ghost use Rattle.outside.specs.Asks.{PromptAnswers};
 
     ghost faults = { λ _. 0 };
 
     ghost not_yets = { λ delays. delays };
 
     ghost is_prompt = { true };
+
+    ghost answers = { PromptAnswers };
 
     fn ask(&mut self, _: u32, _: Code, after: u32, asked: u32) -> Arrival
         ensures prompt { result ≡ prompt_arrival after asked }

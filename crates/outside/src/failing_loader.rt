@@ -51,12 +51,15 @@ impl FailingLoader {
 
 impl Loader for FailingLoader {
     ghost use Rattle.std.specs.Prelude.{false};
+    ghost use Rattle.outside.specs.Asks.{FallibleAnswers};
 
     ghost faults = { λ s. s.faults };
 
     ghost not_yets = { λ s. s.not_yets };
 
     ghost is_prompt = { false };
+
+    ghost answers = { FallibleAnswers };
 
     fn ask(&mut self, _: u32, _: Code, after: u32, asked: u32) -> Arrival
         ensures not_yets_counted { NeverFalls self.old.not_yets self.new.not_yets }

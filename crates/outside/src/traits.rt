@@ -3,6 +3,7 @@
 ghost use Rattle.std.specs.Prelude.{◌≡◌, ℕ, ◌<◌, ◌≤◌, Bool, List, Option, Result, None, length, take, IfOk, OnErr};
 ghost use Rattle.std.specs.Bool.{OnTrue};
 ghost use Rattle.std.specs.Io.KnownBytes.{Appends, Consumes, Keeps};
+ghost use Rattle.outside.specs.Asks.{Ask};
 ghost use Rattle.outside.specs.Bytes.{IsZeroAtEnd};
 ghost use Rattle.outside.specs.Counts.{NeverFalls, Rose};
 ghost use Rattle.outside.specs.Prompt.{prompt_arrival};
@@ -70,6 +71,8 @@ pub enum Arrival {
 
 /// Says when the value of a load has arrived.
 pub trait Loader {
+    ghost use Rattle.outside.specs.declared.traits.Arrival.{Arrival};
+
     /// How many calls have failed so far. It stays at the last value of a `u64`.
     ghost faults: { Self → ℕ };
 
@@ -79,9 +82,15 @@ pub trait Loader {
     /// Whether loaders of this type go by `after` and `asked` alone.
     ghost is_prompt: { Bool };
 
+    /// What one ask does: a loader in the first state, asked this, gives this answer and is in the second
+    /// state then. Only an ask tells its caller so, thus a caller's contract can say which asks it made.
+    ghost answers: { Self → Ask → Arrival → Self → Type 0 };
+
     /// Asks for the value of `resource` at `key`. `after` is how many calls the resource wants
     /// before it is ready, and `asked` is how often this load has been asked since its key changed.
     fn ask(&mut self, resource: u32, key: Code, after: u32, asked: u32) -> Arrival
+        ensures answered { answers self.old (record { resource = resource; key = key; after = after; asked = asked }) result self.new }
+
         ensures not_yet { result ≡ Arrival.NotYet → Rose (not_yets self.old) (not_yets self.new) }
         ensures failed { result ≡ Arrival.Failed → Rose (faults self.old) (faults self.new) }
 
