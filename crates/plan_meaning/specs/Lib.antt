@@ -1,4 +1,5 @@
 pub mod Renamed
 pub mod Owners
 pub mod Layout
+pub mod Told
 pub mod Carried

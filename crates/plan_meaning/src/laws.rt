@@ -1,10 +1,46 @@
 //! Laws of the definitions. Each is the contract of a function that does nothing.
-ghost use Rattle.std.specs.Prelude.{◌≡◌, length};
+ghost use Rattle.std.specs.Prelude.{◌≡◌, ◌↔◌, ◌<◌, ◌≤◌, ℕ, true, false, List, length, slice_get, Some, None};
+ghost use Rattle.values.specs.declared.limits.TheConstants.{MOST_NODES};
+ghost use Rattle.values.specs.declared.plan.PlanNode.{PlanNode as NodeValue};
+ghost use Rattle.values.specs.Plan.{IsLawful};
 ghost use Rattle.component_items.specs.declared.component.Component.{Component as ComponentValue};
-ghost use Rattle.plain_evaluation.specs.Written.{State, written_in};
-ghost use Rattle.plan_meaning.specs.Layout.{places_of, plan_of};
+ghost use Rattle.component_items.specs.Kept.{IsKept};
+ghost use Rattle.plain_evaluation.specs.Fits.{RowsFit};
+ghost use Rattle.plain_evaluation.specs.Place.{Place};
+ghost use Rattle.plain_evaluation.specs.Sound.{Among, has_place};
+ghost use Rattle.plain_evaluation.specs.Written.{State, Written, place_of, written_in};
+ghost use Rattle.plan_meaning.specs.Carried.{AreApart};
+ghost use Rattle.plan_meaning.specs.Layout.{is_computed, rows_of, places_of, row_of, plan_of};
+ghost use Rattle.plan_meaning.specs.Told.{kind_of_id, owner_of_id};
 
-/// There is one place for each node of the plan.
+/// The plan of a component is lawful, in each state that fits it.
+pub fn plans_are_lawful()
+    ensures { (component : ComponentValue) (state : State) → IsKept component → RowsFit component state → IsLawful (plan_of component state) }
+{}
+
+/// There is one place for each node of the plan, and they are no more than a plan may have.
 pub fn nodes_have_places()
-    ensures { (component : ComponentValue) (state : State) → length (places_of (written_in component state)) ≡ length (plan_of component state).nodes }
+    ensures each { (component : ComponentValue) (state : State) → length (places_of (written_in component state)) ≡ length (plan_of component state).nodes }
+    ensures few { (component : ComponentValue) (state : State) → IsKept component → RowsFit component state → length (places_of (written_in component state)) ≤ MOST_NODES }
+{}
+
+/// The rows are the lines of the text that is written out, and sources come before what is derived.
+pub fn rows_are_what_is_written()
+    ensures as_many { (ws : List Written) → length (rows_of ws) ≡ length ws }
+    ensures there { (ws : List Written) (w : Written) → Among ws w → (row : ℕ) × (slice_get (rows_of ws) row ≡ Some w) }
+    ensures no_others { (ws : List Written) (row : ℕ) (w : Written) → slice_get (rows_of ws) row ≡ Some w → Among ws w }
+    ensures sources_first { (ws : List Written) (row later : ℕ) (v w : Written) → slice_get (rows_of ws) row ≡ Some v → slice_get (rows_of ws) later ≡ Some w → is_computed v.says ≡ false → is_computed w.says ≡ true → row < later }
+{}
+
+/// A place has one row, where it is written out at all, and none exactly where it is not.
+pub fn rows_read_back()
+    ensures row { (component : ComponentValue) (state : State) → IsKept component → RowsFit component state → AreApart (places_of (written_in component state)) }
+    ensures place { (places : List Place) (p : Place) (row : ℕ) → row_of places p ≡ Some row → slice_get places row ≡ Some p }
+    ensures there { (ws : List Written) (w : Written) → Among ws w → (row : ℕ) × (row_of (places_of ws) (place_of w) ≡ Some row) }
+    ensures none { (ws : List Written) (p : Place) → (row_of (places_of ws) p ≡ None) ↔ (has_place ws p ≡ false) }
+{}
+
+/// What a row is and whose it is, is what the text says of the id of its place, whatever the state.
+pub fn rows_are_as_the_text_says()
+    ensures { (component : ComponentValue) (state : State) → IsKept component → RowsFit component state → (row : ℕ) (p : Place) (node : NodeValue) → slice_get (places_of (written_in component state)) row ≡ Some p → slice_get (plan_of component state).nodes row ≡ Some node → (kind_of_id component p.id ≡ Some node.kind) × (owner_of_id component p.id ≡ node.owner) }
 {}
