@@ -4,6 +4,8 @@
 mod answer;
 mod entry;
 pub mod laws;
+mod limits;
 
 pub use answer::{Answer, Answers, Reply};
 pub use entry::Entry;
+pub use limits::LAST_NUMBER;

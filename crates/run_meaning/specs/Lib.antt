@@ -1,0 +1,13 @@
+pub mod Words
+pub mod Opened
+pub mod Lane
+pub mod Entries
+pub mod Edits
+pub mod Explained
+pub mod Phase
+pub mod Merge
+pub mod Told
+pub mod Causes
+pub mod Run
+pub mod Report
+pub mod Ending
