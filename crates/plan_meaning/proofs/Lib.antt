@@ -3,3 +3,7 @@ pub mod Rows
 pub mod Back
 pub mod Owners
 pub mod Told
+pub mod Lines
+pub mod Evaluates
+pub mod Loads
+pub mod Carried

@@ -49,7 +49,7 @@ every_at P (x ∷ ws) (suc r) w h is = every_at P ws r w h.1 is
 pub row_among : (ws : List Written) (r : ℕ) (w : Written) → slice_get (rows_of ws) r ≡ Some w → Among ws w
 row_among ws r w = every_at (Among ws) (rows_of ws) r w (every_row (Among ws) ws (every_of (Among ws) ws (λ v among. among)))
 
-among-append : (xs ys : List Written) (w : Written) → Among xs w ⊎ Among ys w → Among (xs ++ ys) w
+pub among-append : (xs ys : List Written) (w : Written) → Among xs w ⊎ Among ys w → Among (xs ++ ys) w
 among-append [] ys w (inl among) = absurd among
 among-append [] ys w (inr among) = among
 among-append (x ∷ xs) ys w (inl (inl here)) = inl here

@@ -2,4 +2,5 @@ pub mod Renamed
 pub mod Owners
 pub mod Layout
 pub mod Told
+pub mod Values
 pub mod Carried

@@ -1,17 +1,23 @@
 //! Laws of the definitions. Each is the contract of a function that does nothing.
-ghost use Rattle.std.specs.Prelude.{◌≡◌, ◌↔◌, ◌<◌, ◌≤◌, ℕ, true, false, List, length, slice_get, Some, None};
+ghost use Rattle.std.specs.Prelude.{◌≡◌, ◌↔◌, ◌<◌, ◌≤◌, ℕ, suc, true, false, List, length, slice_get, Some, None, IsSomeAnd};
+ghost use Rattle.values.specs.declared.code.Code.{Code as CodeValue};
 ghost use Rattle.values.specs.declared.limits.TheConstants.{MOST_NODES};
 ghost use Rattle.values.specs.declared.plan.PlanNode.{PlanNode as NodeValue};
+ghost use Rattle.values.specs.declared.plan.Kind.TheVariants as kind;
+ghost use Rattle.values.specs.Evaluation.{value_of};
 ghost use Rattle.values.specs.Plan.{IsLawful};
+ghost use Rattle.values.specs.PlanValues.{is_derived, value_at, plan_values};
 ghost use Rattle.component_items.specs.declared.component.Component.{Component as ComponentValue};
 ghost use Rattle.component_items.specs.Kept.{IsKept};
 ghost use Rattle.plain_evaluation.specs.Fits.{RowsFit};
-ghost use Rattle.plain_evaluation.specs.Place.{Place};
+ghost use Rattle.plain_evaluation.specs.Place.{Place, outside};
+ghost use Rattle.plain_evaluation.specs.Scratch.{scratch_in};
 ghost use Rattle.plain_evaluation.specs.Sound.{Among, has_place};
 ghost use Rattle.plain_evaluation.specs.Written.{State, Written, place_of, written_in};
-ghost use Rattle.plan_meaning.specs.Carried.{AreApart};
+ghost use Rattle.plan_meaning.specs.Carried.{AreApart, IsCarried};
 ghost use Rattle.plan_meaning.specs.Layout.{is_computed, rows_of, places_of, row_of, plan_of};
 ghost use Rattle.plan_meaning.specs.Told.{kind_of_id, owner_of_id};
+ghost use Rattle.plan_meaning.specs.Values.{row_values};
 
 /// The plan of a component is lawful, in each state that fits it.
 pub fn plans_are_lawful()
@@ -43,4 +49,22 @@ pub fn rows_read_back()
 /// What a row is and whose it is, is what the text says of the id of its place, whatever the state.
 pub fn rows_are_as_the_text_says()
     ensures { (component : ComponentValue) (state : State) → IsKept component → RowsFit component state → (row : ℕ) (p : Place) (node : NodeValue) → slice_get (places_of (written_in component state)) row ≡ Some p → slice_get (plan_of component state).nodes row ≡ Some node → (kind_of_id component p.id ≡ Some node.kind) × (owner_of_id component p.id ≡ node.owner) }
+{}
+
+/// A derived row, over the values of the places of the rows before it, has the value of its own place. So the
+/// plan, where its sources have the values of their places, evaluates row by row as the component.
+pub fn rows_evaluate_as_their_places()
+    ensures each { (component : ComponentValue) (state : State) → IsKept component → RowsFit component state → (row : ℕ) (p : Place) (node : NodeValue) → slice_get (places_of (written_in component state)) row ≡ Some p → slice_get (plan_of component state).nodes row ≡ Some node → is_derived node.kind ≡ true → (values : ℕ → CodeValue) → ((source : ℕ) → source < row → values source ≡ value_at (row_values component state) source) → value_of node.expr values ≡ scratch_in component state p }
+    ensures all { (component : ComponentValue) (state : State) → IsKept component → RowsFit component state → plan_values (plan_of component state).nodes (value_at (row_values component state)) ≡ row_values component state }
+{}
+
+/// A load stands in no row of a store, and behind its row comes that of its key, whose id is the next.
+pub fn loads_have_their_keys()
+    ensures { (component : ComponentValue) (state : State) → IsKept component → RowsFit component state → (row : ℕ) (p : Place) (node : NodeValue) → slice_get (places_of (written_in component state)) row ≡ Some p → slice_get (plan_of component state).nodes row ≡ Some node → node.kind ≡ kind.Load → (p ≡ outside p.id) × ((key : ℕ) × (row_of (places_of (written_in component state)) (outside (suc p.id)) ≡ Some key) × (row < key) × IsSomeAnd (slice_get (plan_of component state).nodes key) (λ n. n.kind ≡ kind.Memo)) }
+{}
+
+/// Of a place in two layouts of one component the node is the same but for the numbers of rows, and what it
+/// names is in both.
+pub fn layouts_carry_over()
+    ensures { (component : ComponentValue) (state later : State) → IsKept component → RowsFit component state → RowsFit component later → IsCarried (places_of (written_in component state)) (places_of (written_in component later)) (plan_of component state).nodes (plan_of component later).nodes }
 {}
