@@ -7,3 +7,4 @@ pub mod Lines
 pub mod Evaluates
 pub mod Loads
 pub mod Carried
+pub mod Computes

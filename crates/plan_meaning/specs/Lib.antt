@@ -4,3 +4,4 @@ pub mod Layout
 pub mod Told
 pub mod Values
 pub mod Carried
+pub mod Worked

@@ -1,0 +1,27 @@
+use Rattle.component_items.specs.Ids.{item_owners}
+use Rattle.plain_evaluation.specs.Held.{item_first}
+use Rattle.plain_evaluation.specs.Keyed.{item_keyed}
+use Rattle.plain_evaluation.specs.Written.{write_item}
+use Rattle.plan_meaning.specs.Owners.{item_owning}
+use Rattle.plan_meaning.proofs.Computes.{lays_out}
+use Rattle.plan_meaning.proofs.worked.dead_areas.Goals as goal
+
+pub returns-clause-places : goal.returns-clause-places
+unfolding item_first write_item item_owners item_keyed item_owning
+returns-clause-places c = simp lays_out
+
+pub returns-clause-nodes : goal.returns-clause-nodes
+unfolding item_first write_item item_owners item_keyed item_owning
+returns-clause-nodes c = simp lays_out
+
+pub returns-clause-owners : goal.returns-clause-owners
+unfolding item_first write_item item_owners item_keyed item_owning
+returns-clause-owners c = simp lays_out
+
+pub returns-clause-alone : goal.returns-clause-alone
+unfolding item_first write_item item_owners item_keyed item_owning
+returns-clause-alone c = simp lays_out
+
+pub returns-clause-cleanup : goal.returns-clause-cleanup
+unfolding item_first write_item item_owners item_keyed item_owning
+returns-clause-cleanup c = simp lays_out
