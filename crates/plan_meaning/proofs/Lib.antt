@@ -8,3 +8,4 @@ pub mod Evaluates
 pub mod Loads
 pub mod Carried
 pub mod Computes
+pub mod Renumbered

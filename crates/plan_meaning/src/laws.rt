@@ -1,11 +1,12 @@
 //! Laws of the definitions. Each is the contract of a function that does nothing.
-ghost use Rattle.std.specs.Prelude.{◌≡◌, ◌↔◌, ◌<◌, ◌≤◌, ℕ, suc, true, false, List, length, slice_get, Some, None, IsSomeAnd};
+ghost use Rattle.std.specs.Prelude.{◌≡◌, ◌↔◌, ◌<◌, ◌≤◌, ℕ, suc, true, false, List, map, length, slice_get, Some, None, IsSomeAnd};
 ghost use Rattle.values.specs.declared.code.Code.{Code as CodeValue};
+ghost use Rattle.values.specs.declared.expr.Expr.{Expr as ExprValue};
 ghost use Rattle.values.specs.declared.limits.TheConstants.{MOST_NODES};
 ghost use Rattle.values.specs.declared.plan.PlanNode.{PlanNode as NodeValue};
 ghost use Rattle.values.specs.declared.plan.Kind.TheVariants as kind;
 ghost use Rattle.values.specs.Evaluation.{value_of};
-ghost use Rattle.values.specs.Plan.{IsLawful};
+ghost use Rattle.values.specs.Plan.{IsLawful, rows_in};
 ghost use Rattle.values.specs.PlanValues.{is_derived, value_at, plan_values};
 ghost use Rattle.component_items.specs.declared.component.Component.{Component as ComponentValue};
 ghost use Rattle.component_items.specs.Kept.{IsKept};
@@ -14,8 +15,9 @@ ghost use Rattle.plain_evaluation.specs.Place.{Place, outside};
 ghost use Rattle.plain_evaluation.specs.Scratch.{scratch_in};
 ghost use Rattle.plain_evaluation.specs.Sound.{Among, has_place};
 ghost use Rattle.plain_evaluation.specs.Written.{State, Written, place_of, written_in};
-ghost use Rattle.plan_meaning.specs.Carried.{AreApart, IsCarried};
+ghost use Rattle.plan_meaning.specs.Carried.{AreApart, IsCarried, rows_to};
 ghost use Rattle.plan_meaning.specs.Layout.{is_computed, rows_of, places_of, row_of, plan_of};
+ghost use Rattle.plan_meaning.specs.Renamed.{renumbered};
 ghost use Rattle.plan_meaning.specs.Told.{kind_of_id, owner_of_id};
 ghost use Rattle.plan_meaning.specs.Values.{row_values};
 
@@ -67,4 +69,18 @@ pub fn loads_have_their_keys()
 /// names is in both.
 pub fn layouts_carry_over()
     ensures { (component : ComponentValue) (state later : State) → IsKept component → RowsFit component state → RowsFit component later → IsCarried (places_of (written_in component state)) (places_of (written_in component later)) (plan_of component state).nodes (plan_of component later).nodes }
+{}
+
+/// Which row goes to which, by places: a row goes to that of its place, and no two go to one.
+pub fn rows_go_to_their_places()
+    ensures there { (old new : List Place) (row later : ℕ) (p : Place) → AreApart new → slice_get old row ≡ Some p → slice_get new later ≡ Some p → slice_get (rows_to old new) row ≡ Some (Some later) }
+    ensures back { (old new : List Place) (row later : ℕ) → slice_get (rows_to old new) row ≡ Some (Some later) → (p : Place) × (slice_get old row ≡ Some p) × (slice_get new later ≡ Some p) }
+    ensures apart { (old new : List Place) (row other later : ℕ) → AreApart old → slice_get (rows_to old new) row ≡ Some (Some later) → slice_get (rows_to old new) other ≡ Some (Some later) → row ≡ other }
+{}
+
+/// An expression with new numbers has, over values by the new numbers, the value that it had, and names the rows
+/// that it named.
+pub fn renumbered_expressions_are_alike()
+    ensures value { (number : ℕ → ℕ) (expr : ExprValue) (values : ℕ → CodeValue) → value_of (renumbered number expr) values ≡ value_of expr (λ row. values (number row)) }
+    ensures rows { (number : ℕ → ℕ) (expr : ExprValue) → rows_in (renumbered number expr) ≡ map number (rows_in expr) }
 {}
