@@ -1,4 +1,5 @@
 pub mod Effort
 pub mod Tokens
 pub mod Steps
+pub mod Parts
 pub mod Utf8

@@ -3,6 +3,7 @@
 #![tactic(auto)]
 
 mod bytes;
+mod pending;
 mod reader;
 mod state;
 

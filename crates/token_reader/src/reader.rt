@@ -7,9 +7,10 @@ ghost use Rattle.token_reader.specs.Rules as spec;
 ghost use Rattle.token_reader.specs.Reading.{Settles, on_top};
 ghost use Rattle.token_reader.specs.Refused.{IsRefusedOr};
 
+use crate::pending::Pending;
 use crate::state::TextState;
 use component_items::{Place, Refusal, Why};
-use grammar::{Stack, Symbol};
+use grammar::Symbol;
 use std::alloc::{AllocError, Global};
 use text_grammar::{Seen, kind_of};
 use text_lexer::{BadToken, Lexer, Token, TokenKind};
@@ -57,7 +58,7 @@ fn settle<
     alloc: Global,
     lexer: &Lexer<'_>,
     token: Seen,
-    stack: &mut Stack<Symbol<W, R, D>>,
+    stack: &mut Pending<'_, Symbol<W, R, D>>,
     state: &mut S,
 ) -> Result<Option<W>, AllocError>
     requires room { (out : List (Symbol W R D)) (b : S) → Settles S.rules lexer.now.text token stack.old state.old out b → S.rules.size b < 2 ^ 31 }
@@ -88,20 +89,17 @@ pub fn read<
     let mut lexer = Lexer::new(text, first_line);
     let mut token = lexer.next();
     let mut next = lexer.next();
-    let mut stack = Stack::new(alloc);
-    stack.push_all(S::whole_text())?;
+    let mut stack = Pending::new(alloc, S::whole_text());
     let mut state = first;
-    while let Some(terminal) = settle(
-        alloc,
-        &lexer,
-        kind_of(&lexer, token),
-        &mut stack,
-        &mut state,
-    )? {
+    loop {
+        let seen = kind_of(&lexer, token);
+        let Some(terminal) = settle(alloc, &lexer, seen, &mut stack, &mut state)? else {
+            return Err(unexpected(token));
+        };
         let Ok(taken) = token else {
             return Err(unexpected(token));
         };
-        if !S::matches(terminal, kind_of(&lexer, token)) {
+        if !S::matches(terminal, seen) {
             return Err(unexpected(token));
         }
         state.accept(alloc, &lexer, terminal, taken, next)?;
@@ -111,5 +109,4 @@ pub fn read<
         token = next;
         next = lexer.next();
     }
-    Err(unexpected(token))
 }

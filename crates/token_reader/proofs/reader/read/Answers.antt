@@ -1,6 +1,5 @@
-use Rattle.std.proofs.Common.{◌≡◌, ◌<◌, ◌∷◌, ◌++◌, true, false, Ok, Err, sym, ◌∙◌, ap, subst, arith}
+use Rattle.std.proofs.Common.{◌≡◌, ◌<◌, ◌∷◌, true, false, Ok, Err, sym, ◌∙◌, ap, subst, arith}
 use Rattle.std.proofs.lemmas.Result.{err_from_is_err_and}
-use Rattle.std.proofs.Common.{append-nil}
 use Rattle.grammar.specs.declared.symbol.Symbol.TheVariants.{Terminal}
 use Rattle.text_lexer.specs.Cursor.{start_of}
 use Rattle.text_lexer.specs.Tokens.{IsGiven, past}
@@ -27,7 +26,7 @@ loop-state-init g c =
     let given = subst (λ v. IsGiven v x) begin (given_of c.new-lexer.result x e.token e.bad) in
     let more = subst (λ v. IsGiven v y) led (given_of mid y f.token f.bad) in
     let moved = past_of mid now y f.moved f.stays ∙ ap (λ v. past v y) led in
-    let stack : c.push_all.new.self ≡ rules.text = c.in_ok-push_all.ensures ∙ (ap (λ l. c.whole_text.result.now ++ l) c.new-stack.ensures ∙ (append-nil c.whole_text.result.now ∙ c.whole_text.ensures)) in
+    let stack : c.new-stack.result ≡ rules.text = c.new-stack.ensures ∙ c.whole_text.ensures in
     subst (λ l. IsReading rules bytes line c.args.first now x y l c.args.first) (sym stack)
     (at_start rules g.met.S.TextState.readable bytes line c.args.first now x y given more moved)
 
@@ -42,24 +41,10 @@ returns-in_default-token-clause-bad g c =
     let w = c.in-Some.terminal in
     let out = c.settle.new.stack in
     let a = c.settle.new.state in
-    let reading = found rules ok bytes line first s.lexer s.token s.next s.stack out s.state a c.kind_of.result c.in_ok-terminal.field-0 w s.invariant c.kind_of.ensures c.in_ok-terminal.ensures c.in-Some.is in
+    let reading = found rules ok bytes line first s.lexer s.token s.next s.stack out s.state a c.kind_of-seen.result c.in_ok-terminal.field-0 w s.invariant c.kind_of-seen.ensures c.in_ok-terminal.ensures c.in-Some.is in
     let lacks = bad_sees rules ok bytes line first s.lexer s.token c.in_default-token.field-0 w c.in_default-token.is in
-    subst (IsRefusedOr (language rules first line) bytes) (sym c.unexpected.ensures)
+    subst (IsRefusedOr (language rules first line) bytes) (sym c.unexpected-in_default-token.ensures)
     (bad_terminal rules ok bytes line first c.utf8.text s.lexer s.token s.next w out a reading lacks)
-
-pub kind_of-requires-in-Some : goal.kind_of-requires-in-Some
-kind_of-requires-in-Some g c =
-    let s = c.loop-state in
-    let rules = g.S.TextState.rules in
-    let ok = g.met.S.TextState.readable in
-    let bytes = c.args.text.now in
-    let line = c.args.first_line in
-    let first = c.args.first in
-    let w = c.in-Some.terminal in
-    let out = c.settle.new.stack in
-    let a = c.settle.new.state in
-    let reading = found rules ok bytes line first s.lexer s.token s.next s.stack out s.state a c.kind_of.result c.in_ok-terminal.field-0 w s.invariant c.kind_of.ensures c.in_ok-terminal.ensures c.in-Some.is in
-    token_of rules ok bytes line first s.lexer (Ok c.in-Ok.taken) s.next (Terminal w ∷ out) a (subst (λ v. IsReading rules bytes line first s.lexer v s.next (Terminal w ∷ out) a) c.in-Ok.is reading)
 
 pub returns-then-not-matches-clause-bad : goal.returns-then-not-matches-clause-bad
 returns-then-not-matches-clause-bad g c =
@@ -72,9 +57,9 @@ returns-then-not-matches-clause-bad g c =
     let w = c.in-Some.terminal in
     let out = c.settle.new.stack in
     let a = c.settle.new.state in
-    let reading = found rules ok bytes line first s.lexer s.token s.next s.stack out s.state a c.kind_of.result c.in_ok-terminal.field-0 w s.invariant c.kind_of.ensures c.in_ok-terminal.ensures c.in-Some.is in
+    let reading = found rules ok bytes line first s.lexer s.token s.next s.stack out s.state a c.kind_of-seen.result c.in_ok-terminal.field-0 w s.invariant c.kind_of-seen.ensures c.in_ok-terminal.ensures c.in-Some.is in
     let x = c.in-Ok.taken in
-    let sees = sees_at rules ok bytes line first s.lexer s.token s.next (Terminal w ∷ out) a c.kind_of-in-Some.result w c.matches.result false reading (c.kind_of-in-Some.ensures ∙ ap (λ v. kind_of s.lexer.text v) (sym c.in-Ok.is)) c.matches.ensures c.if-not-matches.true in
+    let sees = sees_at rules ok bytes line first s.lexer s.token s.next (Terminal w ∷ out) a c.kind_of-seen.result w c.matches.result false reading c.kind_of-seen.ensures c.matches.ensures c.if-not-matches.true in
     let at = subst (λ v. IsReading rules bytes line first s.lexer v s.next (Terminal w ∷ out) a) c.in-Ok.is reading in
     let lacks = subst (λ v. rules.table.matches w (kind_of bytes v) ≡ false) c.in-Ok.is sees in
     subst (IsRefusedOr (language rules first line) bytes) (sym c.unexpected-then-not-matches.ensures)
@@ -91,7 +76,7 @@ accept-requires-clause-of_text g c =
     let w = c.in-Some.terminal in
     let out = c.settle.new.stack in
     let a = c.settle.new.state in
-    let reading = found rules ok bytes line first s.lexer s.token s.next s.stack out s.state a c.kind_of.result c.in_ok-terminal.field-0 w s.invariant c.kind_of.ensures c.in_ok-terminal.ensures c.in-Some.is in
+    let reading = found rules ok bytes line first s.lexer s.token s.next s.stack out s.state a c.kind_of-seen.result c.in_ok-terminal.field-0 w s.invariant c.kind_of-seen.ensures c.in_ok-terminal.ensures c.in-Some.is in
     token_of rules ok bytes line first s.lexer (Ok c.in-Ok.taken) s.next (Terminal w ∷ out) a (subst (λ v. IsReading rules bytes line first s.lexer v s.next (Terminal w ∷ out) a) c.in-Ok.is reading)
 
 pub accept-requires-clause-room : goal.accept-requires-clause-room
@@ -105,7 +90,7 @@ accept-requires-clause-room g c =
     let w = c.in-Some.terminal in
     let out = c.settle.new.stack in
     let a = c.settle.new.state in
-    let reading = found rules ok bytes line first s.lexer s.token s.next s.stack out s.state a c.kind_of.result c.in_ok-terminal.field-0 w s.invariant c.kind_of.ensures c.in_ok-terminal.ensures c.in-Some.is in
+    let reading = found rules ok bytes line first s.lexer s.token s.next s.stack out s.state a c.kind_of-seen.result c.in_ok-terminal.field-0 w s.invariant c.kind_of-seen.ensures c.in_ok-terminal.ensures c.in-Some.is in
     let few = room rules ok bytes line first s.lexer s.token s.next (Terminal w ∷ out) a reading in
     let limit = c.requires.room in
     omega arith
@@ -121,9 +106,9 @@ returns-in_err-accept-clause-bad g c =
     let w = c.in-Some.terminal in
     let out = c.settle.new.stack in
     let a = c.settle.new.state in
-    let reading = found rules ok bytes line first s.lexer s.token s.next s.stack out s.state a c.kind_of.result c.in_ok-terminal.field-0 w s.invariant c.kind_of.ensures c.in_ok-terminal.ensures c.in-Some.is in
+    let reading = found rules ok bytes line first s.lexer s.token s.next s.stack out s.state a c.kind_of-seen.result c.in_ok-terminal.field-0 w s.invariant c.kind_of-seen.ensures c.in_ok-terminal.ensures c.in-Some.is in
     let x = c.in-Ok.taken in
-    let sees = sees_at rules ok bytes line first s.lexer s.token s.next (Terminal w ∷ out) a c.kind_of-in-Some.result w c.matches.result true reading (c.kind_of-in-Some.ensures ∙ ap (λ v. kind_of s.lexer.text v) (sym c.in-Ok.is)) c.matches.ensures c.if-not-matches.false in
+    let sees = sees_at rules ok bytes line first s.lexer s.token s.next (Terminal w ∷ out) a c.kind_of-seen.result w c.matches.result true reading c.kind_of-seen.ensures c.matches.ensures c.if-not-matches.false in
     let at = subst (λ v. IsReading rules bytes line first s.lexer v s.next (Terminal w ∷ out) a) c.in-Ok.is reading in
     let stands = subst (λ v. rules.table.matches w (kind_of bytes v) ≡ true) c.in-Ok.is sees in
     let same = text_of rules ok bytes line first s.lexer s.token s.next (Terminal w ∷ out) a reading in
@@ -144,9 +129,9 @@ returns-then-is_end-clause-ok g c =
     let w = c.in-Some.terminal in
     let out = c.settle.new.stack in
     let a = c.settle.new.state in
-    let reading = found rules ok bytes line first s.lexer s.token s.next s.stack out s.state a c.kind_of.result c.in_ok-terminal.field-0 w s.invariant c.kind_of.ensures c.in_ok-terminal.ensures c.in-Some.is in
+    let reading = found rules ok bytes line first s.lexer s.token s.next s.stack out s.state a c.kind_of-seen.result c.in_ok-terminal.field-0 w s.invariant c.kind_of-seen.ensures c.in_ok-terminal.ensures c.in-Some.is in
     let x = c.in-Ok.taken in
-    let sees = sees_at rules ok bytes line first s.lexer s.token s.next (Terminal w ∷ out) a c.kind_of-in-Some.result w c.matches.result true reading (c.kind_of-in-Some.ensures ∙ ap (λ v. kind_of s.lexer.text v) (sym c.in-Ok.is)) c.matches.ensures c.if-not-matches.false in
+    let sees = sees_at rules ok bytes line first s.lexer s.token s.next (Terminal w ∷ out) a c.kind_of-seen.result w c.matches.result true reading c.kind_of-seen.ensures c.matches.ensures c.if-not-matches.false in
     let at = subst (λ v. IsReading rules bytes line first s.lexer v s.next (Terminal w ∷ out) a) c.in-Ok.is reading in
     let stands = subst (λ v. rules.table.matches w (kind_of bytes v) ≡ true) c.in-Ok.is sees in
     let same = text_of rules ok bytes line first s.lexer s.token s.next (Terminal w ∷ out) a reading in
@@ -165,23 +150,23 @@ loop-state-preserved g c =
     let w = c.in-Some.terminal in
     let out = c.settle.new.stack in
     let a = c.settle.new.state in
-    let reading = found rules ok bytes line first s.lexer s.token s.next s.stack out s.state a c.kind_of.result c.in_ok-terminal.field-0 w s.invariant c.kind_of.ensures c.in_ok-terminal.ensures c.in-Some.is in
+    let reading = found rules ok bytes line first s.lexer s.token s.next s.stack out s.state a c.kind_of-seen.result c.in_ok-terminal.field-0 w s.invariant c.kind_of-seen.ensures c.in_ok-terminal.ensures c.in-Some.is in
     let x = c.in-Ok.taken in
-    let sees = sees_at rules ok bytes line first s.lexer s.token s.next (Terminal w ∷ out) a c.kind_of-in-Some.result w c.matches.result true reading (c.kind_of-in-Some.ensures ∙ ap (λ v. kind_of s.lexer.text v) (sym c.in-Ok.is)) c.matches.ensures c.if-not-matches.false in
+    let sees = sees_at rules ok bytes line first s.lexer s.token s.next (Terminal w ∷ out) a c.kind_of-seen.result w c.matches.result true reading c.kind_of-seen.ensures c.matches.ensures c.if-not-matches.false in
     let at = subst (λ v. IsReading rules bytes line first s.lexer v s.next (Terminal w ∷ out) a) c.in-Ok.is reading in
     let stands = subst (λ v. rules.table.matches w (kind_of bytes v) ≡ true) c.in-Ok.is sees in
     let same = text_of rules ok bytes line first s.lexer s.token s.next (Terminal w ∷ out) a reading in
     let took = subst (λ l. (rules.semantics l).accept w a (record { token = Ok x; next = s.next }) ≡ Ok c.accept.new.self) same c.in_ok-accept.ensures in
     let more = sym c.is_end.ensures ∙ c.if-is_end.false in
-    let now = c.next-next-in-Some.new.self in
-    let z = c.next-next-in-Some.result in
-    let e = c.next-next-in-Some.ensures in
+    let now = c.next-next-in-loop-state.new.self in
+    let z = c.next-next-in-loop-state.result in
+    let e = c.next-next-in-loop-state.ensures in
     let given = given_of s.lexer z e.token e.bad in
     let moved = past_of s.lexer now z e.moved e.stays in
     at_terminal rules ok bytes line first s.lexer now (Ok x) s.next z w out a c.accept.new.self at stands took more given moved
 
-pub returns-clause-bad : goal.returns-clause-bad
-returns-clause-bad g c =
+pub returns-in_default-clause-bad : goal.returns-in_default-clause-bad
+returns-in_default-clause-bad g c =
     let s = c.loop-state in
     let rules = g.S.TextState.rules in
     let ok = g.met.S.TextState.readable in
@@ -189,8 +174,8 @@ returns-clause-bad g c =
     let line = c.args.first_line in
     let first = c.args.first in
     let a = c.settle.new.state in
-    let reading = none_found rules ok bytes line first s.lexer s.token s.next s.stack c.settle.new.stack s.state a c.kind_of.result c.in_ok-terminal.field-0 s.invariant c.kind_of.ensures c.in_ok-terminal.ensures c.in_default.is in
-    subst (IsRefusedOr (language rules first line) bytes) (sym c.unexpected-2.ensures)
+    let reading = none_found rules ok bytes line first s.lexer s.token s.next s.stack c.settle.new.stack s.state a c.kind_of-seen.result c.in_ok-terminal.field-0 s.invariant c.kind_of-seen.ensures c.in_ok-terminal.ensures c.in_default.is in
+    subst (IsRefusedOr (language rules first line) bytes) (sym c.unexpected.ensures)
     (bad_end rules ok bytes line first c.utf8.text s.lexer s.token s.next a reading)
 
 pub loop-state-smaller : goal.loop-state-smaller
@@ -204,15 +189,15 @@ loop-state-smaller g c =
     let w = c.in-Some.terminal in
     let out = c.settle.new.stack in
     let a = c.settle.new.state in
-    let reading = found rules ok bytes line first s.lexer s.token s.next s.stack out s.state a c.kind_of.result c.in_ok-terminal.field-0 w s.invariant c.kind_of.ensures c.in_ok-terminal.ensures c.in-Some.is in
+    let reading = found rules ok bytes line first s.lexer s.token s.next s.stack out s.state a c.kind_of-seen.result c.in_ok-terminal.field-0 w s.invariant c.kind_of-seen.ensures c.in_ok-terminal.ensures c.in-Some.is in
     let x = c.in-Ok.taken in
-    let sees = sees_at rules ok bytes line first s.lexer s.token s.next (Terminal w ∷ out) a c.kind_of-in-Some.result w c.matches.result true reading (c.kind_of-in-Some.ensures ∙ ap (λ v. kind_of s.lexer.text v) (sym c.in-Ok.is)) c.matches.ensures c.if-not-matches.false in
+    let sees = sees_at rules ok bytes line first s.lexer s.token s.next (Terminal w ∷ out) a c.kind_of-seen.result w c.matches.result true reading c.kind_of-seen.ensures c.matches.ensures c.if-not-matches.false in
     let at = subst (λ v. IsReading rules bytes line first s.lexer v s.next (Terminal w ∷ out) a) c.in-Ok.is reading in
     let stands = subst (λ v. rules.table.matches w (kind_of bytes v) ≡ true) c.in-Ok.is sees in
     let more = sym c.is_end.ensures ∙ c.if-is_end.false in
-    let now = c.next-next-in-Some.new.self in
-    let z = c.next-next-in-Some.result in
-    let e = c.next-next-in-Some.ensures in
+    let now = c.next-next-in-loop-state.new.self in
+    let z = c.next-next-in-loop-state.result in
+    let e = c.next-next-in-loop-state.ensures in
     let given = given_of s.lexer z e.token e.bad in
     let moved = past_of s.lexer now z e.moved e.stays in
     subst (λ v. left now s.next z < left s.lexer v s.next) (sym c.in-Ok.is)
@@ -222,6 +207,6 @@ pub settle-requires-clause-room : goal.settle-requires-clause-room
 settle-requires-clause-room g c =
     let s = c.loop-state in
     λ loans within out b go.
-    let few = room_settled g.S.TextState.rules g.met.S.TextState.readable c.args.text.now c.args.first_line c.args.first s.lexer s.token s.next s.stack s.state c.kind_of.result s.invariant c.kind_of.ensures out b go in
+    let few = room_settled g.S.TextState.rules g.met.S.TextState.readable c.args.text.now c.args.first_line c.args.first s.lexer s.token s.next s.stack s.state c.kind_of-seen.result s.invariant c.kind_of-seen.ensures out b go in
     let limit = c.requires.room in
     omega arith
