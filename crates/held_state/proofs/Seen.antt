@@ -2,6 +2,8 @@
 use Rattle.std.proofs.Common.{◌≡◌, ℕ, zero, suc, ◌+◌, ◌-◌, ◌<◌, ◌≤◌, Bool, List, [], ◌∷◌, map, set, length, refl, ap, arith}
 use Rattle.std.specs.List.{range_with_len}
 use Rattle.std.proofs.lemmas.List.{map-set}
+use Rattle.held_state.specs.Built.{Built}
+use Rattle.plain_evaluation.specs.Held.{Holding as Held-Holding}
 use Rattle.plain_evaluation.specs.Changed.{with_holding}
 use Rattle.held_state.specs.declared.holding.Holding.{Holding}
 use Rattle.held_state.specs.declared.holding.Going.{Going}
@@ -25,3 +27,7 @@ pub set_past : {A : Type 0} (list : List A) (place : ℕ) (new : A) → length l
 set_past [] place new past = refl
 set_past (x ∷ list) zero new past = absurd (omega arith)
 set_past (x ∷ list) (suc place) new past = ap (λ more. x ∷ more) (set_past list place new (omega arith))
+
+-- what goes with an owner, put in its place
+pub with_going : (holdings : List Held-Holding) (goings : List Going) (owner : ℕ) (going : Going) → ◌≡◌ {A = Built} (record { holdings = holdings; goings = map going_seen (set goings owner going) }) (record { holdings = holdings; goings = set (map going_seen goings) owner (going_seen going) })
+with_going holdings goings owner going = λ i. record { holdings = holdings; goings = map-set going_seen goings owner going i }

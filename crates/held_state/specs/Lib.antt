@@ -1,3 +1,5 @@
 pub mod State
+pub mod Built
 pub mod Seen
 pub mod Lending
+pub mod Start

@@ -7,6 +7,7 @@ use Rattle.held_state.specs.declared.holding.Going.{Going}
 use Rattle.plain_evaluation.specs.Held.{Holding as Held-Holding, nothing, value, stored, arrived}
 use Rattle.plain_evaluation.specs.Killed.{Going as Held-Going}
 use Rattle.held_state.specs.State.{HeldState}
+use Rattle.held_state.specs.Built.{Built}
 
 abbrev pub holding_seen : Holding → Held-Holding
 holding_seen Nothing = nothing
@@ -23,3 +24,6 @@ going_seen going = record { ids = numbers_from going.first_id going.past_id; own
 
 abbrev pub state_seen : List Holding → List Bool → List Going → HeldState
 state_seen holdings live goings = record { held = record { holdings = map holding_seen holdings; live = live }; goings = map going_seen goings }
+
+abbrev pub built_seen : List Holding → List Going → Built
+built_seen holdings goings = record { holdings = map holding_seen holdings; goings = map going_seen goings }

@@ -2,7 +2,7 @@
 use Rattle.std.specs.Prelude.{◌≡◌, ℕ, map, slice_index_or, List, ◌∷◌}
 use Rattle.component_items.specs.declared.component.Component.{Component}
 use Rattle.component_items.specs.Ids.{owners_in}
-use Rattle.plain_evaluation.specs.Held.{Held}
+use Rattle.plain_evaluation.specs.Held.{Held, first_held}
 use Rattle.plain_evaluation.specs.Fits.{Fits}
 use Rattle.plain_evaluation.specs.Killed.{Going, none_going, going_with, OwnersFit}
 use Rattle.plain_evaluation.specs.Changed.{StoresFit}
@@ -17,6 +17,10 @@ goings_of component = map (going_with component) (0 ∷ owners_in component.item
 
 abbrev pub going_at : List Going → ℕ → Going
 going_at goings owner = slice_index_or goings owner none_going
+
+-- the state at the start
+abbrev pub first_state : Component → HeldState
+first_state component = record { held = first_held component; goings = goings_of component }
 
 -- the same with another state
 abbrev pub with_held : HeldState → Held → HeldState

@@ -4,9 +4,11 @@ ghost use Rattle.std.specs.Option.{option_copied, option_copied_mut};
 ghost use Rattle.plain_evaluation.specs.Held.{is_live};
 ghost use Rattle.plain_evaluation.specs.Changed.{signal_of, store_of, load_of, with_code, with_arrived};
 ghost use Rattle.plain_evaluation.specs.Killed.{without};
-ghost use Rattle.held_state.specs.State.{going_at, with_held};
+ghost use Rattle.held_state.specs.State.{first_state, going_at, with_held};
 
+use crate::first::Start;
 use crate::holding::{self, Going, Holding};
+use component_items::Component;
 use std::alloc::Global;
 use std::marker::Model;
 use store_fields::Rows;
@@ -32,6 +34,31 @@ impl Model for Held {
 }
 
 impl Held {
+    /// The state at the start: signals have their starts, stores no rows, no key has arrived for a load, and all
+    /// owners are live.
+    pub fn first(alloc: Global, component: &Component) -> Result<Held, NoMemory>
+        ensures { IfOk result (λ held. held ≡ first_state component.now) }
+    {
+        let items = component.items();
+        let mut start = Start {
+            alloc,
+            holdings: Vec::new(alloc),
+            goings: Vec::new(alloc),
+        };
+        start.area(items)?;
+        let Start {
+            holdings,
+            goings,
+            ..
+        } = start;
+        let live = vec![in alloc; true; goings.len()]?;
+        Ok(Held {
+            holdings,
+            live,
+            goings,
+        })
+    }
+
     /// Whether the owner is live. An owner that the component has not is not.
     pub fn is_live(&self, owner: u32) -> bool
         ensures { result ≡ is_live self.now.held owner }

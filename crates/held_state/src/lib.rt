@@ -2,6 +2,7 @@
 //! loads, and which owners are live. Each call says what becomes of it by the definitions of plain evaluation.
 #![tactic(auto)]
 
+mod first;
 mod held;
 mod holding;
 

@@ -64,7 +64,7 @@ live_itself before (owner ∷ owners) =
 
 -- ---- one item
 
-attrs_long : (attrs : List Attr) → length (flat_map attr_ids attrs) ≡ length (flat_map first_attr attrs)
+pub attrs_long : (attrs : List Attr) → length (flat_map attr_ids attrs) ≡ length (flat_map first_attr attrs)
 attrs_long [] = refl
 attrs_long (attr.Bare name ∷ attrs) = attrs_long attrs
 attrs_long (attr.Fixed name text ∷ attrs) = attrs_long attrs
@@ -140,10 +140,10 @@ module _ (held : Held) where
   by_form (level.Text text) = (refl, λ has live. refl)
   by_form (level.Shown id expr) = (refl, λ has live. refl)
 
-  item_begun : (item : Item) → IsBegun item
+  pub item_begun : (item : Item) → IsBegun item
   item_begun = ind-Item IsBegun (λ x y is. subst (λ z. IsBegun (roll-Item z)) is (rolled (map-Item Proven Item (λ k. k.0) y) (by_form y)))
 
-  items_begun : (items : List Item) → AreBegun held (ids_in items) (owners_in items) (flat_map item_first items) (list_all (item_begins held) items)
+  pub items_begun : (items : List Item) → AreBegun held (ids_in items) (owners_in items) (flat_map item_first items) (list_all (item_begins held) items)
   items_begun [] = (refl, λ has live. refl)
   items_begun (item ∷ items) =
       let first = item_begun item in
