@@ -57,6 +57,7 @@ impl<T> Stack<T> {
 
 impl<T: Drop> Stack<T> {
     /// Puts an item on top.
+    #[inline(always)]
     pub fn push(&mut self, item: T) -> Result<(), AllocError>
         ensures ok { OnOk result (self.new ≡ item ∷ self.old) }
         ensures err { OnErr result (self.new ≡ self.old) }

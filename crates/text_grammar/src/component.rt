@@ -195,6 +195,7 @@ pub enum Action {
 }
 
 /// The tokens that may stand for the terminal.
+#[inline(always)]
 pub fn class_of(terminal: Terminal) -> Class
     ensures { result ≡ spec.class_of terminal }
 {
@@ -267,6 +268,7 @@ pub fn class_of(terminal: Terminal) -> Class
 }
 
 /// Whether the token may stand for the terminal.
+#[inline(always)]
 pub fn matches(terminal: Terminal, token: Seen) -> bool
     ensures { result ≡ spec.matches terminal token }
 {

@@ -57,6 +57,7 @@ pub enum Class {
 }
 
 /// How the grammars see what the lexer gave for its text.
+#[inline(always)]
 pub fn kind_of(lexer: &Lexer<'_>, token: Result<Token, BadToken>) -> Seen
     requires { IfOk token (λ x. IsTokenOf lexer.now.text x) }
     ensures { result ≡ spec.kind_of lexer.now.text token }
@@ -179,6 +180,7 @@ fn number_of_mark(mark: Mark) -> u8
     }
 }
 
+#[inline(always)]
 fn number_of(kind: Kind) -> u8
     ensures { result ≡ class.number_of kind }
 {
@@ -195,6 +197,7 @@ fn number_of(kind: Kind) -> u8
     }
 }
 
+#[inline(always)]
 fn is_same(a: Kind, b: Kind) -> bool
     ensures { result ≡ class.is_same a b }
 {
@@ -248,6 +251,7 @@ fn is_closer(kind: Kind) -> bool
 
 impl Class {
     /// Whether the token is one of the class.
+    #[inline(always)]
     pub fn contains(self, token: Seen) -> bool
         ensures { result ≡ class.is_in self token }
     {

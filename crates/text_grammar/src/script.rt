@@ -104,6 +104,7 @@ pub enum Action {
 }
 
 /// The tokens that may stand for the terminal.
+#[inline(always)]
 pub fn class_of(terminal: Terminal) -> Class
     ensures { result ≡ spec.class_of terminal }
 {
@@ -144,6 +145,7 @@ pub fn class_of(terminal: Terminal) -> Class
 }
 
 /// Whether the token may stand for the terminal.
+#[inline(always)]
 pub fn matches(terminal: Terminal, token: Seen) -> bool
     ensures { result ≡ spec.matches terminal token }
 {
