@@ -9,3 +9,4 @@ pub mod Loads
 pub mod Carried
 pub mod Computes
 pub mod Renumbered
+pub mod Settled

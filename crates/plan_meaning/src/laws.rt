@@ -1,5 +1,5 @@
 //! Laws of the definitions. Each is the contract of a function that does nothing.
-ghost use Rattle.std.specs.Prelude.{◌≡◌, ◌↔◌, ◌<◌, ◌≤◌, ℕ, suc, true, false, List, map, length, slice_get, Some, None, IsSomeAnd};
+ghost use Rattle.std.specs.Prelude.{◌≡◌, ◌≢◌, ◌↔◌, ◌<◌, ◌≤◌, ℕ, suc, true, false, List, map, length, slice_get, Some, None, IsSomeAnd};
 ghost use Rattle.values.specs.declared.code.Code.{Code as CodeValue};
 ghost use Rattle.values.specs.declared.expr.Expr.{Expr as ExprValue};
 ghost use Rattle.values.specs.declared.limits.TheConstants.{MOST_NODES};
@@ -18,6 +18,7 @@ ghost use Rattle.plain_evaluation.specs.Written.{State, Written, place_of, writt
 ghost use Rattle.plan_meaning.specs.Carried.{AreApart, IsCarried, rows_to};
 ghost use Rattle.plan_meaning.specs.Layout.{is_computed, rows_of, places_of, row_of, plan_of};
 ghost use Rattle.plan_meaning.specs.Renamed.{renumbered};
+ghost use Rattle.plan_meaning.specs.Settled.{AreSettled};
 ghost use Rattle.plan_meaning.specs.Told.{kind_of_id, owner_of_id};
 ghost use Rattle.plan_meaning.specs.Values.{row_values};
 
@@ -58,6 +59,14 @@ pub fn rows_are_as_the_text_says()
 pub fn rows_evaluate_as_their_places()
     ensures each { (component : ComponentValue) (state : State) → IsKept component → RowsFit component state → (row : ℕ) (p : Place) (node : NodeValue) → slice_get (places_of (written_in component state)) row ≡ Some p → slice_get (plan_of component state).nodes row ≡ Some node → is_derived node.kind ≡ true → (values : ℕ → CodeValue) → ((source : ℕ) → source < row → values source ≡ value_at (row_values component state) source) → value_of node.expr values ≡ scratch_in component state p }
     ensures all { (component : ComponentValue) (state : State) → IsKept component → RowsFit component state → plan_values (plan_of component state).nodes (value_at (row_values component state)) ≡ row_values component state }
+{}
+
+/// Values of the rows that are settled are those of plain evaluation, at each row but an effect's, and over them
+/// each expression has the value of its own place. Those of plain evaluation are settled.
+pub fn settled_values_are_plain_evaluation()
+    ensures rows { (component : ComponentValue) (state : State) → IsKept component → RowsFit component state → (values : ℕ → CodeValue) → AreSettled component state values → (row : ℕ) (p : Place) (node : NodeValue) → slice_get (places_of (written_in component state)) row ≡ Some p → slice_get (plan_of component state).nodes row ≡ Some node → node.kind ≢ kind.Effect → values row ≡ scratch_in component state p }
+    ensures expressions { (component : ComponentValue) (state : State) → IsKept component → RowsFit component state → (values : ℕ → CodeValue) → AreSettled component state values → (row : ℕ) (p : Place) (node : NodeValue) → slice_get (places_of (written_in component state)) row ≡ Some p → slice_get (plan_of component state).nodes row ≡ Some node → is_derived node.kind ≡ true → value_of node.expr values ≡ scratch_in component state p }
+    ensures settled { (component : ComponentValue) (state : State) → IsKept component → RowsFit component state → AreSettled component state (value_at (row_values component state)) }
 {}
 
 /// A load stands in no row of a store, and behind its row comes that of its key, whose id is the next.
