@@ -1,0 +1,4 @@
+pub mod Appends
+pub mod Bounds
+pub mod KeyedForms
+pub mod LineForms

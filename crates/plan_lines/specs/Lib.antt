@@ -1,0 +1,3 @@
+pub mod Flags
+pub mod Scenes
+pub mod Lines
