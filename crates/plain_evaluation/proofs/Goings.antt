@@ -146,3 +146,20 @@ module _ (owner : ℕ) where
   pub items_go : (items : List Item) → IsGoing owner (ids_in items) (owners_in items) (ids_going owner items) (owners_going owner items)
   items_go [] = going_nothing owner
   items_go (item ∷ items) = going-append owner (item_ids item) (ids_in items) (item_owners item) (owners_in items) (item_ids_going owner item) (ids_going owner items) (item_owners_going owner item) (owners_going owner items) (item_goes item) (items_go items)
+
+-- the same of items one after another, as an item has them
+pub all_go : (owner : ℕ) (items : List Item) → IsGoing owner (concat (map item_ids items)) (concat (map item_owners items)) (going_all (map (item_ids_going owner) items)) (going_all (map (item_owners_going owner) items))
+all_go owner [] = going_nothing owner
+all_go owner (item ∷ items) = going-append owner (item_ids item) (concat (map item_ids items)) (item_owners item) (concat (map item_owners items)) (item_ids_going owner item) (going_all (map (item_ids_going owner) items)) (item_owners_going owner item) (going_all (map (item_owners_going owner) items)) (item_goes owner item) (all_go owner items)
+
+pub concat-map : {A : Type 0} (f : A → List ℕ) (xs : List A) → concat (map f xs) ≡ flat_map f xs
+concat-map f [] = refl
+concat-map f (x ∷ xs) = ap (λ more. f x ++ more) (concat-map f xs)
+
+pub ids_going-all : (owner : ℕ) (items : List Item) (goes : Bool) → going_all (map (item_ids_going owner) items) goes ≡ ids_going owner items goes
+ids_going-all owner [] goes = refl
+ids_going-all owner (item ∷ items) goes = ap (λ more. item_ids_going owner item goes ++ more) (ids_going-all owner items goes)
+
+pub owners_going-all : (owner : ℕ) (items : List Item) (goes : Bool) → going_all (map (item_owners_going owner) items) goes ≡ owners_going owner items goes
+owners_going-all owner [] goes = refl
+owners_going-all owner (item ∷ items) goes = ap (λ more. item_owners_going owner item goes ++ more) (owners_going-all owner items goes)

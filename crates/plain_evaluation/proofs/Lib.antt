@@ -17,3 +17,4 @@ pub mod Told
 pub mod Origins
 pub mod Goings
 pub mod KilledLemmas
+pub mod Nesting

@@ -1,13 +1,14 @@
 //! Laws of the definitions. Each is the contract of a function that does nothing.
-ghost use Rattle.std.specs.Prelude.{◌≡◌, ℕ, ◌≤◌, length};
+ghost use Rattle.std.specs.Prelude.{◌≡◌, ℕ, ◌≤◌, ◌==◌, if◌then◌else◌, false, length};
+ghost use Rattle.std.specs.List.{list_any};
 ghost use Rattle.values.specs.declared.limits.TheConstants.{MOST_NODES};
 ghost use Rattle.component_items.specs.declared.component.Component.{Component as ComponentValue};
 ghost use Rattle.component_items.specs.Kept.{IsKept};
 ghost use Rattle.plain_evaluation.specs.Begins.{Begins};
 ghost use Rattle.plain_evaluation.specs.Fits.{Fits, RowsFit};
-ghost use Rattle.plain_evaluation.specs.Held.{Held, first_held};
+ghost use Rattle.plain_evaluation.specs.Held.{nothing, Held, first_held, holding_of, is_live};
 ghost use Rattle.plain_evaluation.specs.Keyed.{is_keyed};
-ghost use Rattle.plain_evaluation.specs.Killed.{killed};
+ghost use Rattle.plain_evaluation.specs.Killed.{going_with, killed, OwnersFit};
 ghost use Rattle.plain_evaluation.specs.Origins.{origin_in, origin_of};
 ghost use Rattle.plain_evaluation.specs.Sound.{Among, IsSound, SolvesItsEquations, ReadsStandBefore};
 ghost use Rattle.plain_evaluation.specs.Written.{State, Written, state_of, written_in};
@@ -58,4 +59,20 @@ pub fn places_have_origins()
 /// A disposal keeps the fit.
 pub fn killed_state_fits()
     ensures { (component : ComponentValue) (held : Held) (owner : ℕ) → Fits component held → Fits component (killed component owner held) }
+{}
+
+/// After a disposal what goes holds nothing, and its owners are dead; all else is as it was.
+pub fn disposals_take_what_goes()
+    ensures holdings { (component : ComponentValue) (held : Held) (owner id : ℕ) → holding_of (killed component owner held) id ≡ (if list_any (λ gone. gone == id) (going_with component owner).ids then nothing else holding_of held id) }
+    ensures owners { (component : ComponentValue) (held : Held) (owner other : ℕ) → is_live (killed component owner held) other ≡ (if list_any (λ gone. gone == other) (going_with component owner).owners then false else is_live held other) }
+{}
+
+/// At the start an owner is live only where the one around it is.
+pub fn first_owners_fit()
+    ensures { (component : ComponentValue) → IsKept component → OwnersFit component (first_held component) }
+{}
+
+/// A disposal keeps this.
+pub fn killed_owners_fit()
+    ensures { (component : ComponentValue) (held : Held) (owner : ℕ) → IsKept component → OwnersFit component held → OwnersFit component (killed component owner held) }
 {}
