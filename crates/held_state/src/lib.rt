@@ -5,5 +5,6 @@
 mod first;
 mod held;
 mod holding;
+pub mod laws;
 
 pub use held::Held;

@@ -8,7 +8,7 @@ use Rattle.plain_evaluation.specs.Killed.{Going, with_each, without}
 use Rattle.plain_evaluation.proofs.Fitting.{items_follow}
 
 -- a place has what it had, or what was put
-set_cases : {A : Type 0} (list : List A) (place : ℕ) (new : A) (id : ℕ) (none : A) → (get_or (set list place new) id none ≡ get_or list id none) ⊎ (get_or (set list place new) id none ≡ new)
+pub set_cases : {A : Type 0} (list : List A) (place : ℕ) (new : A) (id : ℕ) (none : A) → (get_or (set list place new) id none ≡ get_or list id none) ⊎ (get_or (set list place new) id none ≡ new)
 set_cases [] place new id none = inl refl
 set_cases (x ∷ list) zero new zero none = inr refl
 set_cases (x ∷ list) zero new (suc id) none = inl refl

@@ -18,3 +18,4 @@ pub mod Origins
 pub mod Goings
 pub mod KilledLemmas
 pub mod Nesting
+pub mod Most

@@ -1,11 +1,14 @@
 //! Laws of the definitions. Each is the contract of a function that does nothing.
-ghost use Rattle.std.specs.Prelude.{◌≡◌, ℕ, ◌≤◌, ◌==◌, if◌then◌else◌, false, length};
+ghost use Rattle.std.specs.Prelude.{◌≡◌, ℕ, ◌≤◌, ◌==◌, if◌then◌else◌, true, false, Some, Option as OptionOf, length};
 ghost use Rattle.std.specs.List.{list_any};
+ghost use Rattle.values.specs.declared.code.Code.{Code as CodeValue};
 ghost use Rattle.values.specs.declared.limits.TheConstants.{MOST_NODES};
 ghost use Rattle.component_items.specs.declared.component.Component.{Component as ComponentValue};
 ghost use Rattle.component_items.specs.Kept.{IsKept};
+ghost use Rattle.store_fields.specs.Edits.{KeyedRows};
 ghost use Rattle.plain_evaluation.specs.Begins.{Begins};
-ghost use Rattle.plain_evaluation.specs.Fits.{Fits, RowsFit};
+ghost use Rattle.plain_evaluation.specs.Changed.{StoresFit, store_of, with_code, with_arrived, with_store};
+ghost use Rattle.plain_evaluation.specs.Fits.{keys_differ, rows_fit, Fits, RowsFit};
 ghost use Rattle.plain_evaluation.specs.Held.{nothing, Held, first_held, holding_of, is_live};
 ghost use Rattle.plain_evaluation.specs.Keyed.{is_keyed};
 ghost use Rattle.plain_evaluation.specs.Killed.{going_with, killed, OwnersFit};
@@ -75,4 +78,22 @@ pub fn first_owners_fit()
 /// A disposal keeps this.
 pub fn killed_owners_fit()
     ensures { (component : ComponentValue) (held : Held) (owner : ℕ) → IsKept component → OwnersFit component held → OwnersFit component (killed component owner held) }
+{}
+
+/// At the start no store has room for more rows than the component says.
+pub fn first_stores_fit()
+    ensures { (component : ComponentValue) → IsKept component → StoresFit component (first_held component) }
+{}
+
+/// A disposal keeps this.
+pub fn killed_stores_fit()
+    ensures { (component : ComponentValue) (held : Held) (owner : ℕ) → StoresFit component held → StoresFit component (killed component owner held) }
+{}
+
+/// A code of a signal, a key of a load and new rows of a store keep the fit: rows with distinct keys, with the
+/// store's count of fields and no more than it may have.
+pub fn changed_state_fits()
+    ensures code { (component : ComponentValue) (held : Held) (id : ℕ) (code : CodeValue) → Fits component held → StoresFit component held → Fits component (with_code held id code) × StoresFit component (with_code held id code) }
+    ensures key { (component : ComponentValue) (held : Held) (id : ℕ) (key : OptionOf CodeValue) → Fits component held → StoresFit component held → Fits component (with_arrived held id key) × StoresFit component (with_arrived held id key) }
+    ensures rows { (component : ComponentValue) (held : Held) (id : ℕ) (before store : KeyedRows) → Fits component held → StoresFit component held → store_of held id ≡ Some before → store.max ≡ before.max → store.width ≡ before.width → rows_fit before.max before.width store.rows ≡ true → keys_differ store.rows ≡ true → Fits component (with_store held id store) × StoresFit component (with_store held id store) }
 {}
