@@ -1,14 +1,8 @@
-//! What was read of a component text so far, and how each token and each action changes it
-//! (`docs/SEMANTICS.md`). It is the state that the reader of component texts goes through.
+//! Component texts as a language that the reader reads (`docs/SEMANTICS.md`): the state through which it goes, with what
+//! each token and each action does to it.
 #![tactic(auto)]
 
-mod accept;
-mod actions;
-mod keys;
-mod spelling;
 mod state;
 mod text_state;
 
-pub use keys::Keys;
-pub use spelling::Spelling;
 pub use state::ComponentState;

@@ -5,6 +5,7 @@ ghost use Rattle.component_state.specs.Readable.{readable as components_are_read
 
 use crate::state::ComponentState;
 use component_items::Refusal;
+use component_tokens::accept_token;
 use grammar::Symbol;
 use std::alloc::{AllocError, Global};
 use text_grammar::Seen;
@@ -38,11 +39,11 @@ impl TextState<Terminal, Rule, Action> for ComponentState {
         token: Token,
         next: Result<Token, BadToken>,
     ) -> Result<(), Refusal> {
-        self.accept_token(alloc, lexer, terminal, token, next)
+        accept_token(&mut self.draft, alloc, lexer, terminal, token, next)
     }
 
     fn perform(&mut self, alloc: Global, action: Action) -> Result<(), AllocError> {
-        ComponentState::perform(self, alloc, action)
+        component_actions::perform(&mut self.draft, alloc, action)
     }
 
     ghost readable = { components_are_readable };

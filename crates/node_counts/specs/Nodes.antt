@@ -1,9 +1,10 @@
 -- Counts that are held to one more than the most.
 use Rattle.std.specs.Prelude.{◌≡◌, ℕ, min, nat_eq, unwrap_or}
 use Rattle.std.specs.HashMap.{HashMap, get}
+use Rattle.node_counts.specs.declared.numbers.TheConstants.{TOO_MANY}
 
 abbrev pub capped : ℕ → ℕ
-capped n = min n 4097
+capped n = min n TOO_MANY
 
 -- what was noted of each store
 abbrev pub most_in : {S : Type 0} → HashMap ℕ ℕ S → ℕ → ℕ

@@ -7,7 +7,7 @@ ghost use Rattle.node_counts.specs.Nodes.{most_in, capped, Agrees};
 ghost use Rattle.node_counts.specs.Own.{own_nodes};
 
 use crate::most::{most_of, note_all};
-use crate::numbers::{add, cap, multiply};
+use crate::numbers::{TOO_MANY, add, cap, multiply};
 use component_items::{Attr, Item};
 use std::alloc::{AllocError, Global};
 use std::collections::HashMap;
@@ -15,7 +15,7 @@ use values::limits::MOST_NODES;
 
 /// Whether the items lay out more nodes than a component may.
 pub fn has_too_many_nodes(alloc: Global, items: &[Item]) -> Result<bool, AllocError>
-    ensures { IfOk result (λ too_many. too_many ≡ nat_lt 4096 (nodes_of items.now)) }
+    ensures { IfOk result (λ too_many. too_many ≡ nat_lt MOST_NODES (nodes_of items.now)) }
 {
     let mut most = HashMap::new(alloc);
     note_all(items, &mut most)?;
@@ -78,7 +78,7 @@ fn count_all(items: &[Item], most: &HashMap<u32, usize>) -> usize
 #[cycle(count)]
 fn count_item(item: &Item, most: &HashMap<u32, usize>) -> usize
     ensures nodes { (rows : ℕ → ℕ) → Agrees (most_in most.now) rows → result ≡ capped (item_nodes rows item.now) }
-    ensures within { result ≤ 4097 }
+    ensures within { result ≤ TOO_MANY }
 {
     let own = count_own(item);
     match item {

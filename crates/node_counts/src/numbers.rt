@@ -3,8 +3,10 @@
 ghost use Rattle.std.specs.Prelude.{◌≡◌, ◌+◌, ◌*◌, ◌≤◌};
 ghost use Rattle.node_counts.specs.Nodes.{capped};
 
+use values::limits::MOST_NODES;
+
 /// One more than as many nodes as a component may lay out.
-const TOO_MANY: usize = 4097;
+pub const TOO_MANY: usize = MOST_NODES + 1;
 
 /// The count, or `TOO_MANY` where it is more.
 pub fn cap(count: usize) -> usize
@@ -15,8 +17,8 @@ pub fn cap(count: usize) -> usize
 
 /// The sum of two counts.
 pub fn add(a: usize, b: usize) -> usize
-    requires a { a ≤ 4097 }
-    requires b { b ≤ 4097 }
+    requires a { a ≤ TOO_MANY }
+    requires b { b ≤ TOO_MANY }
     ensures { result ≡ capped (a + b) }
 {
     cap(a + b)
@@ -24,8 +26,8 @@ pub fn add(a: usize, b: usize) -> usize
 
 /// The product of two counts.
 pub fn multiply(a: usize, b: usize) -> usize
-    requires a { a ≤ 4097 }
-    requires b { b ≤ 4097 }
+    requires a { a ≤ TOO_MANY }
+    requires b { b ≤ TOO_MANY }
     ensures { result ≡ capped (a * b) }
 {
     cap(a * b)

@@ -1,0 +1,268 @@
+//! The names of tags and attributes.
+
+ghost use Rattle.std.specs.Prelude.{◌≡◌, Ok, Some, None, IfOk, OnOk};
+ghost use Rattle.text_lexer.specs.Token.{IsTokenOf};
+ghost use Rattle.token_reader.specs.Rules.{Accepts};
+ghost use Rattle.component_meaning.specs.Meaning.{accept_token};
+ghost use Rattle.component_meaning.specs.Names as names;
+ghost use Rattle.component_tokens.specs.Spelled as spec;
+
+use component_draft::Draft;
+use component_items::{Count, Refusal, Why};
+use std::alloc::AllocError;
+use text_grammar::component::Terminal;
+use text_grammar::{Class, kind_of};
+use text_lexer::{BadToken, Lexer, Token};
+use token_parts::{goes_on, is_full, is_part, place_of, value_up_to};
+use values::limits::GREATEST_NUMBER;
+
+/// Whether no element of this tag may stand in a page.
+fn is_raw_tag(tag: &str) -> bool
+    ensures { result ≡ names.is_raw_tag tag.now }
+{
+    tag == "script" || tag == "style"
+}
+
+/// Whether the token is a number that is too great.
+fn is_wide(lexer: &Lexer<'_>, token: Token) -> bool
+    requires { IsTokenOf lexer.now.text token }
+    ensures { result ≡ spec.is_wide lexer.now.text token }
+{
+    Class::AnyNumber.contains(kind_of(lexer, Ok(token)))
+        && value_up_to(lexer, token, GREATEST_NUMBER).is_none()
+}
+
+/// The name of a tag or attribute begins.
+fn begin_name(draft: &mut Draft, lexer: &Lexer<'_>, token: Token) -> Result<(), AllocError>
+    requires { IsTokenOf lexer.now.text token }
+    ensures { OnOk result (draft.new ≡ spec.beginning lexer.now.text token draft.old) }
+{
+    draft.spelling.begin(lexer.slice(&token), place_of(token))
+}
+
+/// It goes on.
+fn extend_name(draft: &mut Draft, lexer: &Lexer<'_>, token: Token) -> Result<(), AllocError>
+    requires { IsTokenOf lexer.now.text token }
+    ensures { OnOk result (draft.new ≡ spec.extending lexer.now.text token draft.old) }
+{
+    if is_wide(lexer, token) {
+        draft.spelling.widen(place_of(token));
+    }
+    draft.spelling.extend(lexer.slice(&token))
+}
+
+/// Why no number of the whole name may stand in it.
+fn wide_refusal(draft: &Draft) -> Option<Refusal>
+    ensures { result ≡ spec.wide_refusal draft.now }
+{
+    let place = draft.spelling.wide()?;
+    Some(Refusal::Bad(Why::NumberRange, place))
+}
+
+/// Why the whole name may be no tag of an element that opens.
+fn open_refusal(draft: &Draft) -> Option<Refusal>
+    ensures { result ≡ spec.open_refusal draft.now }
+{
+    let place = draft.spelling.place();
+    if is_raw_tag(draft.spelling.as_str()) {
+        return Some(Refusal::Bad(Why::WrongPlace, place));
+    }
+    if is_full(&draft.texts, draft.spelling.as_str()) {
+        return Some(Refusal::Bad(Why::TooLarge(Count::Texts), place));
+    }
+    wide_refusal(draft)
+}
+
+/// Whether the innermost open element has an attribute of the whole name.
+fn has_attribute(draft: &Draft) -> bool
+    ensures { result ≡ names.has_attribute draft.now.spelling.bytes draft.now }
+{
+    match draft.texts.find(draft.spelling.as_str()) {
+        Some(number) => draft.blocks.has_attribute(number),
+        None => false,
+    }
+}
+
+/// Why the whole name may be no attribute's.
+fn attribute_refusal(draft: &Draft) -> Option<Refusal>
+    ensures { result ≡ spec.attribute_refusal draft.now }
+{
+    let place = draft.spelling.place();
+    if has_attribute(draft) {
+        return Some(Refusal::Bad(Why::NameTaken, place));
+    }
+    if is_full(&draft.texts, draft.spelling.as_str()) {
+        return Some(Refusal::Bad(Why::TooLarge(Count::Texts), place));
+    }
+    wide_refusal(draft)
+}
+
+/// Whether the whole name is the tag of the innermost open element.
+fn is_open_tag(draft: &Draft) -> bool
+    ensures { result ≡ names.is_open_tag draft.now.spelling.bytes draft.now }
+{
+    let Some(tag) = draft.blocks.open_tag() else {
+        return false;
+    };
+    match draft.texts.find(draft.spelling.as_str()) {
+        Some(number) => number == tag,
+        None => false,
+    }
+}
+
+/// Why the whole name may be no tag of an element that closes.
+fn close_refusal(draft: &Draft) -> Option<Refusal>
+    ensures { result ≡ spec.close_refusal draft.now }
+{
+    if !is_open_tag(draft) {
+        return Some(Refusal::Bad(Why::UnclosedTag, draft.spelling.place()));
+    }
+    wide_refusal(draft)
+}
+
+/// The first part of a tag that opens an element.
+pub(crate) fn accept_open_tag(
+    draft: &mut Draft,
+    lexer: &Lexer<'_>,
+    token: Token,
+    next: Result<Token, BadToken>,
+) -> Result<(), Refusal>
+    requires of_text { IsTokenOf lexer.now.text token }
+    requires next_of_text { IfOk next (IsTokenOf lexer.now.text) }
+    ensures plain { Accepts (accept_token lexer.now.text Terminal.OpenTag draft.old (Ok token) next) result draft.new }
+    ensures void { Accepts (accept_token lexer.now.text Terminal.VoidTag draft.old (Ok token) next) result draft.new }
+{
+    begin_name(draft, lexer, token)?;
+    if goes_on(lexer, next) {
+        return Ok(());
+    }
+    match open_refusal(draft) {
+        None => Ok(()),
+        Some(refusal) => Err(refusal),
+    }
+}
+
+/// A further part of a tag that opens an element.
+pub(crate) fn accept_open_tag_part(
+    draft: &mut Draft,
+    lexer: &Lexer<'_>,
+    token: Token,
+    next: Result<Token, BadToken>,
+) -> Result<(), Refusal>
+    requires of_text { IsTokenOf lexer.now.text token }
+    requires next_of_text { IfOk next (IsTokenOf lexer.now.text) }
+    ensures { Accepts (accept_token lexer.now.text Terminal.OpenTagPart draft.old (Ok token) next) result draft.new }
+{
+    extend_name(draft, lexer, token)?;
+    if goes_on(lexer, next) {
+        return Ok(());
+    }
+    match open_refusal(draft) {
+        None => Ok(()),
+        Some(refusal) => Err(refusal),
+    }
+}
+
+/// The first part of the name of an attribute.
+pub(crate) fn accept_attribute_name(
+    draft: &mut Draft,
+    lexer: &Lexer<'_>,
+    token: Token,
+    next: Result<Token, BadToken>,
+) -> Result<(), Refusal>
+    requires of_text { IsTokenOf lexer.now.text token }
+    requires next_of_text { IfOk next (IsTokenOf lexer.now.text) }
+    ensures { Accepts (accept_token lexer.now.text Terminal.AttributeName draft.old (Ok token) next) result draft.new }
+{
+    begin_name(draft, lexer, token)?;
+    if goes_on(lexer, next) {
+        return Ok(());
+    }
+    match attribute_refusal(draft) {
+        None => Ok(()),
+        Some(refusal) => Err(refusal),
+    }
+}
+
+/// A further part of the name of an attribute.
+pub(crate) fn accept_attribute_part(
+    draft: &mut Draft,
+    lexer: &Lexer<'_>,
+    token: Token,
+    next: Result<Token, BadToken>,
+) -> Result<(), Refusal>
+    requires of_text { IsTokenOf lexer.now.text token }
+    requires next_of_text { IfOk next (IsTokenOf lexer.now.text) }
+    ensures { Accepts (accept_token lexer.now.text Terminal.AttributePart draft.old (Ok token) next) result draft.new }
+{
+    extend_name(draft, lexer, token)?;
+    if goes_on(lexer, next) {
+        return Ok(());
+    }
+    match attribute_refusal(draft) {
+        None => Ok(()),
+        Some(refusal) => Err(refusal),
+    }
+}
+
+/// The first part of a tag that closes an element.
+pub(crate) fn accept_close_tag(
+    draft: &mut Draft,
+    lexer: &Lexer<'_>,
+    token: Token,
+    next: Result<Token, BadToken>,
+) -> Result<(), Refusal>
+    requires of_text { IsTokenOf lexer.now.text token }
+    requires next_of_text { IfOk next (IsTokenOf lexer.now.text) }
+    ensures { Accepts (accept_token lexer.now.text Terminal.CloseTag draft.old (Ok token) next) result draft.new }
+{
+    begin_name(draft, lexer, token)?;
+    if goes_on(lexer, next) {
+        return Ok(());
+    }
+    match close_refusal(draft) {
+        None => Ok(()),
+        Some(refusal) => Err(refusal),
+    }
+}
+
+/// A further part of a tag that closes an element.
+pub(crate) fn accept_close_tag_part(
+    draft: &mut Draft,
+    lexer: &Lexer<'_>,
+    token: Token,
+    next: Result<Token, BadToken>,
+) -> Result<(), Refusal>
+    requires of_text { IsTokenOf lexer.now.text token }
+    requires next_of_text { IfOk next (IsTokenOf lexer.now.text) }
+    ensures { Accepts (accept_token lexer.now.text Terminal.CloseTagPart draft.old (Ok token) next) result draft.new }
+{
+    extend_name(draft, lexer, token)?;
+    if goes_on(lexer, next) {
+        return Ok(());
+    }
+    match close_refusal(draft) {
+        None => Ok(()),
+        Some(refusal) => Err(refusal),
+    }
+}
+
+/// The `-` within a name. Where the name never becomes whole, a number in it that is too great is refused here.
+pub(crate) fn accept_dash(
+    draft: &mut Draft,
+    lexer: &Lexer<'_>,
+    token: Token,
+    next: Result<Token, BadToken>,
+) -> Result<(), Refusal>
+    requires of_text { IsTokenOf lexer.now.text token }
+    requires next_of_text { IfOk next (IsTokenOf lexer.now.text) }
+    ensures { Accepts (accept_token lexer.now.text Terminal.Dash draft.old (Ok token) next) result draft.new }
+{
+    if let Some(place) = draft.spelling.wide() {
+        if !is_part(lexer, next) {
+            return Err(Refusal::Bad(Why::NumberRange, place));
+        }
+    }
+    draft.spelling.extend("-")?;
+    Ok(())
+}
