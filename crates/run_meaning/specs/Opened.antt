@@ -1,5 +1,5 @@
 -- What a phase opens with: the held state, the plan laid out from it, and what each id stands for there.
-use Rattle.std.specs.Prelude.{◌≡◌, ℕ, ◌==◌, Bool, not, Option, Some, None, if◌then◌else◌, List, [], ◌∷◌, ◌++◌, map, slice_get, length, filter, unwrap_or}
+use Rattle.std.specs.Prelude.{◌≡◌, ℕ, ◌==◌, Bool, not, Option, Some, None, if◌then◌else◌, List, [], ◌∷◌, ◌++◌, slice_get, length, filter, unwrap_or}
 use Rattle.std.specs.List.{list_any, range_with_len}
 use Rattle.values.specs.declared.code.Code.{Code}
 use Rattle.values.specs.declared.code.Code.TheVariants.{Empty}
@@ -9,11 +9,11 @@ use Rattle.values.specs.declared.plan.PlanNode.{PlanNode}
 use Rattle.values.specs.declared.plan.PlanOwner.{PlanOwner}
 use Rattle.component_items.specs.declared.component.Component.{Component}
 use Rattle.plain_evaluation.specs.Held.{Held, is_live}
-use Rattle.plain_evaluation.specs.Origins.{origin_in}
 use Rattle.plain_evaluation.specs.Place.{Place, place_at}
-use Rattle.plain_evaluation.specs.Scratch.{scratch}
 use Rattle.plain_evaluation.specs.Written.{state_of, written}
 use Rattle.plan_meaning.specs.Layout.{places_of, row_of, plan_of}
+use Rattle.plan_meaning.specs.Told.{owner_of_id}
+use Rattle.plan_meaning.specs.Values.{row_values}
 
 -- what an id, with the key of a store row or none, stands for when a phase opens
 pub data Target : Type 0 where
@@ -87,7 +87,7 @@ target_at (Some n) = at_row n
 -- of a live owner, what has no row is of a store row that is not there
 abbrev pub target_in : Component → Held → List Place → ℕ → Option Code → Target
 target_in component held places id key =
-    let owner = (origin_in component id).around.owner in
+    let owner = owner_of_id component id in
     if is_live held owner then target_at (row_of places (place_at id key)) else at_dead owner
 
 abbrev pub opened_of : Component → Held → Opened
@@ -97,7 +97,7 @@ opened_of component held =
       held = held;
       plan = plan_of component (state_of held);
       places = places;
-      values = map (scratch component held) places;
+      values = row_values component (state_of held);
       target = target_in component held places;
-      owner_of = λ id. (origin_in component id).around.owner;
+      owner_of = owner_of_id component;
     }

@@ -1,3 +1,6 @@
 pub mod Parts
 pub mod Rows
 pub mod Wrong
+pub mod Texts
+pub mod States
+pub mod Lanes
