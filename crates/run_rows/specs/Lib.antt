@@ -4,3 +4,4 @@ pub mod Wrong
 pub mod Texts
 pub mod States
 pub mod Lanes
+pub mod Whole

@@ -7,4 +7,5 @@ pub mod openings;
 pub mod reports;
 pub mod right;
 pub mod states;
+pub mod whole;
 pub mod wrong;
