@@ -1,2 +1,9 @@
 mod Lists
 mod Journal
+mod Cut
+mod Totals
+mod Facts
+mod Plain
+mod Numbers
+mod Got
+mod Disposals

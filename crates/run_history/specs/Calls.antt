@@ -50,6 +50,7 @@ pub record IsNoted (g : Going) (block : List Noted) (h : Going) (n : ℕ) (f : F
 
 -- the value is that by plain evaluation, and it stands under this number: that of the row's last write or change in the phase, 0 where there is none
 pub record IsGot (s : Start) (g : Going) (block : List Noted) (h : Going) (row : ℕ) (v : Code) (n : ℕ) : Type 0 where
+  pub live : IsLiveRow s g.entries row
   pub changes : all_are is_change block ≡ true
   pub draws : h.drawn ≤ g.drawn + derived_of s
   pub plain : v ≡ plain_code s h.entries row
@@ -129,7 +130,7 @@ pub data Call : Type 0 where
 abbrev pub SaysAt : Start → Going → List Noted → Going → ℕ → Call → Type 0
 SaysAt s g block h pass (set row code (Ok n)) = IsLiveRow s g.entries row × IsNoted g block h n (fact.Write row code)
 SaysAt s g block h pass (set row code (Err why)) = RowStops s g block h 1 row why × (block ≡ [])
-SaysAt s g block h pass (get row (Ok a)) = IsLiveRow s g.entries row × IsGot s g block h row a.0 a.1
+SaysAt s g block h pass (get row (Ok a)) = IsGot s g block h row a.0 a.1
 SaysAt s g block h pass (get row (Err why)) = RowStops s g block h (derived_of s) row why
 SaysAt s g block h pass (pump x) = IsPumped s g block h x
 SaysAt s g block h pass (dispose owner x) = IsDisposed s g block h owner x

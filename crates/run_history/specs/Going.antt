@@ -8,10 +8,10 @@ use Rattle.values.specs.declared.plan.PlanNode.{PlanNode}
 use Rattle.values.specs.declared.plan.Noted.{Noted}
 use Rattle.values.specs.declared.plan.Fact.{Fact}
 use Rattle.values.specs.declared.plan.Fact.TheVariants as fact
-use Rattle.values.specs.PlanValues.{is_derived, value_at, plan_value}
+use Rattle.values.specs.PlanValues.{is_derived, plan_value}
 use Rattle.run_items.specs.declared.limits.TheConstants.{LAST_NUMBER}
 use Rattle.run_meaning.specs.Words.{In, greatest}
-use Rattle.run_meaning.specs.Opened.{Opened, at_none, dead_of}
+use Rattle.run_meaning.specs.Opened.{Opened, at_none, opening_code, dead_of}
 use Rattle.run_meaning.specs.Entries.{is_disposal, disposed_in, last_write, last_ran}
 use Rattle.run_meaning.specs.Phase.{Phase, IsOfPlan}
 use Rattle.run_meaning.specs.Merge.{last_run, AllDiffer}
@@ -76,7 +76,7 @@ latest es n = greatest (writes_of n es)
 
 -- the value of its last write, or its opening value
 abbrev pub latest_code : Start → List Noted → ℕ → Code
-latest_code s es n = unwrap_or (last_write es n) (value_at s.values n)
+latest_code s es n = unwrap_or (last_write es n) (opening_code (opened_at s) n)
 
 -- the value of each row by plain evaluation over these, with loads as they were when the phase opened
 abbrev pub plain_code : Start → List Noted → ℕ → Code
