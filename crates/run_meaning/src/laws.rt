@@ -1,13 +1,43 @@
 //! Laws of the definitions. Each is the contract of a function that does nothing.
-ghost use Rattle.std.specs.Prelude.{◌≡◌, ◌≤◌, ℕ, List, length};
+ghost use Rattle.std.specs.Prelude.{◌≡◌, ◌⊎◌, ◌≤◌, ℕ, ◌∷◌, ◌++◌, Some, None, Option as OptionOf, List, length, sum_by};
+ghost use Rattle.values.specs.declared.code.Code.{Code as CodeValue};
+ghost use Rattle.values.specs.declared.plan.Noted.{Noted as NotedValue};
+ghost use Rattle.values.specs.declared.plan.Pumped.{Pumped as PumpedValue};
+ghost use Rattle.component_items.specs.declared.component.Component.{Component as ComponentValue};
 ghost use Rattle.script_items.specs.declared.operation.ScriptOp.{ScriptOp as OpValue};
+ghost use Rattle.run_items.specs.declared.answer.Answer.{Answer as AnswerValue};
 ghost use Rattle.run_items.specs.declared.answer.Reply.TheVariants as reply;
-ghost use Rattle.run_meaning.specs.Lane.{Done};
-ghost use Rattle.run_meaning.specs.Phase.{Phase};
-ghost use Rattle.run_meaning.specs.Causes.{Caused};
+ghost use Rattle.run_items.specs.Journal.{JournalPhase};
+ghost use Rattle.plain_evaluation.specs.Held.{Held};
+ghost use Rattle.run_meaning.specs.Causes.{Caused, IsSpent, PumpedBy};
+ghost use Rattle.run_meaning.specs.Explained.{Explained};
+ghost use Rattle.run_meaning.specs.Lane.{Done, numbers};
+ghost use Rattle.run_meaning.specs.Merge.{NotedOnce};
+ghost use Rattle.run_meaning.specs.Opened.{Opened};
+ghost use Rattle.run_meaning.specs.Phase.{Phase, IsJournal};
+ghost use Rattle.run_meaning.specs.Run.{IsPhase, IsRun, Settled, phases_of};
+ghost use Rattle.run_meaning.specs.Words.{times};
+ghost use Rattle.run_items.specs.declared.limits.TheConstants.{LAST_NUMBER};
 
-/// In a phase of one lane nothing is busy, and nothing is marked meanwhile.
+/// In a phase of one lane nothing is busy, nothing is marked meanwhile, and no effect is left, unless all numbers
+/// are spent.
 pub fn one_lane_is_not_disturbed()
     ensures busy { (past : List Phase) (p : Phase) (before : List Done) (x : OpValue) (n : ℕ) → length p.lanes ≤ 1 → Caused past p 1 before x (reply.Busy n) → ⊥ }
     ensures again { (past : List Phase) (p : Phase) (before : List Done) (x : OpValue) (n : ℕ) → length p.lanes ≤ 1 → Caused past p 1 before x (reply.Again n) → ⊥ }
+    ensures left { (p : Phase) (before : List Done) (x : PumpedValue) → length p.lanes ≤ 1 → PumpedBy p 1 before x → ((k : ℕ) × IsSpent p k) ⊎ (x.left ≡ 0) }
+{}
+
+/// All numbers are spent only where the journal has that many entries.
+pub fn spent_phases_are_full()
+    ensures { (p : Phase) (k : ℕ) → IsJournal p.opened p.drawn p.entries → IsSpent p k → LAST_NUMBER ≤ length p.entries }
+{}
+
+/// No two replies have one number.
+pub fn numbers_are_told_once()
+    ensures { (p : Phase) → IsJournal p.opened p.drawn p.entries → NotedOnce p → (n : ℕ) → sum_by (λ lane. times n (numbers lane)) p.lanes ≤ 1 }
+{}
+
+/// What explains a value within bounds explains it within wider ones.
+pub fn wider_bounds_explain()
+    ensures { (o : Opened) (es : List NotedValue) (low wider : ℕ → ℕ) (high : OptionOf ℕ) (n : ℕ) (v : CodeValue) → ((row : ℕ) → wider row ≤ low row) → Explained o es low high n v → Explained o es wider None n v }
 {}

@@ -1,5 +1,5 @@
 -- The phase that disposes an area twice and then sets its signal, whatever else it opens with.
-use Rattle.std.proofs.Common.{rules, ◌≡◌, ◌⊎◌, ℕ, Bool, true, Option, Some, None, [], ◌∷◌, List, refl, sym, ◌∙◌, inl, inr, ap, arith}
+use Rattle.std.proofs.Common.{rules, ◌≡◌, ◌⊎◌, ℕ, true, Option, Some, None, [], ◌∷◌, List, refl, inl, inr, ap, arith}
 use Rattle.std.specs.List.{list_any}
 use Rattle.std.proofs.lemmas.Option.{none-some}
 use Rattle.values.specs.declared.code.Code.{Code}

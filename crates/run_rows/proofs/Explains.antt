@@ -1,5 +1,5 @@
 -- What a value that is explained rests on.
-use Rattle.std.proofs.Common.{◌≡◌, ◌≢◌, ℕ, ◌<◌, ◌≤◌, ◌==◌, Bool, true, false, if◌then◌else◌, Option, Some, List, [], ◌∷◌, map, inl, inr, refl, sym, ap, ◌∙◌, subst, ⊎_elim, arith}
+use Rattle.std.proofs.Common.{◌≡◌, ◌≢◌, ◌⊎◌, ℕ, ◌<◌, ◌≤◌, ◌==◌, Bool, true, false, if◌then◌else◌, Option, Some, List, [], ◌∷◌, map, inl, inr, refl, sym, ap, ◌∙◌, subst, ⊎_elim, arith}
 use Rattle.std.specs.Prelude.{unwrap_or}
 use Rattle.std.specs.List.{AllByRecursion}
 use Rattle.std.proofs.lemmas.Bool.{true≢false, eqb-true, eq-eqb}
@@ -18,7 +18,7 @@ use Rattle.values.specs.Evaluation.{combined, is_same, value_of, reads_of}
 use Rattle.values.specs.PlanValues.{is_derived}
 use Rattle.values.proofs.Evaluation.{readings_of-Lit, readings_of-Read, readings_of-Binary, readings_of-If, value_of-Lit, value_of-Read, value_of-Binary, value_of-If}
 use Rattle.run_meaning.specs.Words.{In}
-use Rattle.run_meaning.specs.Opened.{Opened, node_at, IsKind}
+use Rattle.run_meaning.specs.Opened.{Opened, node_at, IsKind, opening_code}
 use Rattle.run_meaning.specs.Entries.{fact_at}
 use Rattle.run_meaning.specs.Explained.{Evaluates, value_among, Explained, opening, written, loaded, run}
 use Rattle.run_rows.proofs.Cases.{all_in}
@@ -66,6 +66,13 @@ written_rests o es low high n v (opening w z e) s l = absurd (omega (arith, z))
 written_rests o es low high n v (written k w e a b) s l = (k, e, a)
 written_rests o es low high n v (loaded i e) s l = absurd (load_or_signal i.0.kind i.2 (is_of_kind o n kind.Signal i.0 s i.1))
 written_rests o es low high n v (run m reads is gives each) s l = absurd (not_derived o n kind.Signal m refl s is.0 is.1)
+
+-- a signal rests on its opening value or on a write
+pub signal_rests : (o : Opened) (es : List Noted) (low : ℕ → ℕ) (high : Option ℕ) (n : ℕ) (v : Code) → Explained o es low high n v → IsKind o n kind.Signal → (opening_code o n ≡ v) ⊎ ((k : ℕ) × (fact_at k es ≡ Some (fact.Write n v)))
+signal_rests o es low high n v (opening w z e) s = inl e
+signal_rests o es low high n v (written k w e a b) s = inr (k, e)
+signal_rests o es low high n v (loaded i e) s = inl e
+signal_rests o es low high n v (run m reads is gives each) s = absurd (not_derived o n kind.Signal m refl s is.0 is.1)
 
 -- what a node computes from one row and a value of the text rests on the row's value
 pub record RestsOn (o : Opened) (es : List Noted) (low : ℕ → ℕ) (high : Option ℕ) (op : Op) (row : ℕ) (c v : Code) : Type 0 where

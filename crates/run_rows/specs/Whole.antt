@@ -1,5 +1,5 @@
 -- A whole run: its script, its journal and its answers.
-use Rattle.std.specs.Prelude.{ℕ, None, List, [], ◌∷◌}
+use Rattle.std.specs.Prelude.{ℕ, List, [], ◌∷◌}
 use Rattle.values.specs.declared.plan.Fact.TheVariants as fact
 use Rattle.script_items.specs.declared.operation.ScriptOp.{ScriptOp}
 use Rattle.script_items.specs.declared.operation.ScriptOp.TheVariants as op

@@ -1,11 +1,13 @@
 -- Phases that ran wrongly, each in one way.
-use Rattle.std.specs.Prelude.{[], ◌∷◌}
+use Rattle.std.specs.Prelude.{None, Some, [], ◌∷◌}
 use Rattle.values.specs.declared.plan.Fact.TheVariants as fact
+use Rattle.values.specs.declared.plan.Left.TheVariants as left
 use Rattle.store_fields.specs.declared.edit.Verdict.TheVariants as verdict
 use Rattle.script_items.specs.declared.operation.ScriptOp.TheVariants as op
 use Rattle.run_items.specs.declared.answer.Reply.TheVariants as reply
 use Rattle.run_meaning.specs.Phase.{Phase}
-use Rattle.run_rows.specs.Parts.{number, did, set, get, disposed, pumped, note, phase_of}
+use Rattle.run_rows.specs.Parts.{number, did, set, get, disposed, pumped, note, no_counts, phase_of}
+use Rattle.run_rows.specs.Lanes.{counted, met, left_effect}
 use Rattle.run_rows.specs.Rows.{branch, branch_opened, equal, diamond_opened, edits, inserts, area_opened, area, effect_opened, pumps, gone_opened}
 
 -- ---- writes
@@ -62,7 +64,27 @@ disposed_twice = record area { lanes = (disposed 1 1 0 ∷ disposed 1 1 0 ∷ di
 abbrev pub disposed_by_none : Phase
 disposed_by_none = phase_of area_opened [] (note 1 (fact.Disposed 1) ∷ [])
 
+-- the reply counts two owners, and the area has one
+abbrev pub disposed_too_many : Phase
+disposed_too_many = record area { lanes = (disposed 1 1 1 ∷ []) ∷ [] }
+
+-- the area is disposed before the lane's write, and its number is greater
+abbrev pub disposed_out_of_order : Phase
+disposed_out_of_order = phase_of (record branch_opened { plan = record branch_opened.plan { owners = area_opened.plan.owners } }) (disposed 1 1 0 ∷ did (set 2 (number 8)) (reply.Set 1) ∷ []) (note 1 (fact.Write 2 (number 8)) ∷ note 2 (fact.Disposed 1) ∷ [])
+
 -- ---- changes, edits and effects
+
+-- the memo changed to a value that no write gives
+abbrev pub change_unexplained : Phase
+change_unexplained = record equal { drawn = 3; entries = note 1 (fact.Write 0 (number 1)) ∷ note 2 (fact.Write 0 (number 1)) ∷ note 3 (fact.Change 1 (number 5)) ∷ [] }
+
+-- the second edit stands at the place of the third
+abbrev pub edit_out_of_place : Phase
+edit_out_of_place = record edits { entries = note 1 (fact.Edit 1 0) ∷ note 2 (fact.Edit 1 2) ∷ note 3 (fact.Edit 1 1) ∷ [] }
+
+-- the edits are those of another pass
+abbrev pub edits_of_another : Phase
+edits_of_another = record edits { entries = note 1 (fact.Edit 2 0) ∷ note 2 (fact.Edit 2 1) ∷ note 3 (fact.Edit 2 2) ∷ [] }
 
 -- the memo ran to the value that it had
 abbrev pub change_to_the_same : Phase
@@ -83,6 +105,14 @@ ran_too_early = phase_of effect_opened (pumped 1 0 0 ∷ did (set 0 (number 2)) 
 -- it ran twice, and was told once
 abbrev pub run_untold : Phase
 run_untold = record pumps { lanes = (pumped 1 0 0 ∷ did (set 0 (number 2)) (reply.Set 2) ∷ pumped 0 1 0 ∷ []) ∷ [] }
+
+-- it ran behind the lane's next write
+abbrev pub ran_out_of_order : Phase
+ran_out_of_order = phase_of effect_opened (pumped 1 0 0 ∷ did (set 0 (number 2)) (reply.Set 1) ∷ []) (note 1 (fact.Write 0 (number 2)) ∷ note 2 (fact.Ran 1 (number 20)) ∷ [])
+
+-- a number came to nothing, and no effect was gone or left
+abbrev pub void_untold : Phase
+void_untold = phase_of effect_opened (pumped 1 0 0 ∷ []) (note 1 (fact.Void 1) ∷ note 2 (fact.Ran 1 (number 10)) ∷ [])
 
 -- ---- numbers
 
@@ -123,3 +153,27 @@ busy_alone = phase_of branch_opened (did (get 3) (reply.Busy 3) ∷ []) []
 -- numbers are left
 abbrev pub full_too_early : Phase
 full_too_early = phase_of branch_opened (did (set 2 (number 8)) (reply.Full 65537) ∷ []) []
+
+-- another lane got the memo, and nobody wrote
+abbrev pub again_unmarked : Phase
+again_unmarked = record met { lanes = (did (get 1) (reply.Again 1) ∷ []) ∷ (did (get 1) (reply.Got (number 0) 0) ∷ []) ∷ []; drawn = 0; entries = []; counts = counted 0 1 ∷ no_counts ∷ [] }
+
+-- another lane wrote below the memo, and nobody else got it
+abbrev pub busy_unmet : Phase
+busy_unmet = record met { lanes = (did (get 1) (reply.Busy 1) ∷ []) ∷ (did (set 0 (number 1)) (reply.Set 1) ∷ []) ∷ []; drawn = 1; entries = note 1 (fact.Write 0 (number 1)) ∷ []; counts = counted 1 0 ∷ no_counts ∷ [] }
+
+-- the effect was left, and there is no other lane
+abbrev pub left_alone : Phase
+left_alone = phase_of effect_opened (did op.Pump (reply.Pumped (record { ran = 0; same = 0; gone = 0; left = 1; first_left = Some (1, left.Busy 1) })) ∷ []) []
+
+-- effects were left, and none is named
+abbrev pub first_unnamed : Phase
+first_unnamed = record left_effect { lanes = (did op.Pump (reply.Pumped (record { ran = 0; same = 0; gone = 0; left = 1; first_left = None })) ∷ []) ∷ (pumped 1 0 0 ∷ []) ∷ [] }
+
+-- the lane's pass met no other
+abbrev pub busy_uncounted : Phase
+busy_uncounted = record met { counts = no_counts ∷ no_counts ∷ [] }
+
+-- the effect is told to be gone, and its owner is live
+abbrev pub gone_alive : Phase
+gone_alive = phase_of effect_opened (pumped 0 0 1 ∷ []) []

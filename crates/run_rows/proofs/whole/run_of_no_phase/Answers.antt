@@ -1,4 +1,4 @@
-use Rattle.std.proofs.Common.{◌≡◌, ℕ, None, List, [], ◌∷◌, codes, refl, sym}
+use Rattle.std.proofs.Common.{◌≡◌, None, [], codes, refl, sym}
 use Rattle.component_items.specs.Ids.{item_owners}
 use Rattle.plain_evaluation.specs.Held.{Held, item_first, first_held}
 use Rattle.plain_evaluation.specs.Keyed.{item_keyed}

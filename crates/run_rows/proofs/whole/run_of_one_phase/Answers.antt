@@ -1,4 +1,4 @@
-use Rattle.std.proofs.Common.{◌≡◌, ℕ, true, Option, Some, None, List, [], ◌∷◌, ◌++◌, codes, refl, sym, ap, ◌∙◌, subst}
+use Rattle.std.proofs.Common.{◌≡◌, ℕ, true, Option, None, List, [], ◌∷◌, ◌++◌, codes, refl, sym, ap, ◌∙◌, subst}
 use Rattle.std.specs.Fmt.{digits}
 use Rattle.component_items.specs.Ids.{item_owners}
 use Rattle.values.specs.declared.code.Code.{Code}
@@ -7,7 +7,7 @@ use Rattle.plain_evaluation.specs.Held.{Held, item_first, first_held}
 use Rattle.plain_evaluation.specs.Keyed.{item_keyed}
 use Rattle.plain_evaluation.specs.Killed.{item_ids_going, item_owners_going}
 use Rattle.plain_evaluation.specs.Page.{item_bytes, page_of}
-use Rattle.plain_evaluation.specs.Place.{Place, outside}
+use Rattle.plain_evaluation.specs.Place.{outside}
 use Rattle.plain_evaluation.specs.Rows.{side, side_dead}
 use Rattle.plain_evaluation.specs.Scratch.{pending}
 use Rattle.plain_evaluation.specs.Written.{write_item, written, state_of}
@@ -17,13 +17,13 @@ use Rattle.plan_meaning.specs.Owners.{item_owning}
 use Rattle.plan_meaning.specs.Told.{owner_of_id}
 use Rattle.plan_meaning.specs.Values.{row_values}
 use Rattle.plan_meaning.proofs.Computes.{lays_out}
-use Rattle.run_meaning.specs.Opened.{Opened, Target, at_row, target_in, opened_of}
+use Rattle.run_meaning.specs.Opened.{at_row, target_in, opened_of}
 use Rattle.run_meaning.specs.Ending.{EndsWithPage}
 use Rattle.run_meaning.specs.Phase.{Phase}
 use Rattle.run_meaning.specs.Report.{report}
 use Rattle.run_meaning.specs.Run.{IsPhase, Settled, Runs, none, more, held_arrived, after}
 use Rattle.run_rows.specs.Rows.{area, area_opened}
-use Rattle.run_rows.proofs.Area.{opened_by, phase_in, disposed_twice}
+use Rattle.run_rows.proofs.Area.{phase_in, disposed_twice}
 use Rattle.run_rows.proofs.Laid.{side_owner, target_by}
 use Rattle.run_rows.proofs.whole.run_of_one_phase.Goals as goal
 
