@@ -162,7 +162,7 @@ or_right : (a b : Bool) → b ≡ true → (a || b) ≡ true
 or_right true b e = refl
 or_right false b e = e
 
-any_made : (test : Done → Bool) (m : Made) (h : List Made) → In m h → test m.done ≡ true → list_any test (done_by m.pass h) ≡ true
+pub any_made : (test : Done → Bool) (m : Made) (h : List Made) → In m h → test m.done ≡ true → list_any test (done_by m.pass h) ≡ true
 any_made test m [] i e = absurd i
 any_made test m (x ∷ h) i e = ⊎_elim
     (λ (q : x ≡ m). subst (λ (y : Made). list_any test (cond (nat_eq y.pass x.pass) (x.done ∷ done_by y.pass h) (done_by y.pass h)) ≡ true) q

@@ -7,3 +7,8 @@ mod Plain
 mod Numbers
 mod Got
 mod Disposals
+mod Pumps
+mod Causes
+mod Counts
+mod Room
+mod Whole

@@ -1,13 +1,15 @@
 //! What follows of each history of one caller after another. Each law is the contract of a function that does nothing.
-ghost use Rattle.std.specs.Prelude.{◌≡◌, ℕ, None, Some, List};
+ghost use Rattle.std.specs.Prelude.{◌≡◌, ◌≤◌, ℕ, None, Some, List};
 ghost use Rattle.values.specs.declared.plan.PlanNode.{PlanNode as NodeValue};
 ghost use Rattle.values.specs.declared.plan.Noted.{Noted as NotedValue};
 ghost use Rattle.values.specs.Plan.{IsLawful};
 ghost use Rattle.run_meaning.specs.Opened.{Opened, node_at};
 ghost use Rattle.run_meaning.specs.Explained.{Explained};
 ghost use Rattle.run_meaning.specs.Phase.{Phase, IsJournal};
-ghost use Rattle.run_meaning.specs.Merge.{Answered, NotedInOrder, NotedOnce, DisposedOnce};
+ghost use Rattle.run_meaning.specs.Merge.{Answered, NotedInOrder, NotedOnce, DisposedOnce, PumpsFit, ChangesDiffer, IsMerge};
 ghost use Rattle.run_meaning.specs.Told.{GotExplained, EntriesExplained, NoRunAfter};
+ghost use Rattle.run_meaning.specs.Causes.{RepliesCaused, RefusalsCounted, cost_of, HasRoom};
+ghost use Rattle.run_meaning.specs.Run.{IsPhase};
 ghost use Rattle.run_history.specs.Going.{start_of, latest, plain_code};
 ghost use Rattle.run_history.specs.History.{OfHistories, VerdictsFit};
 
@@ -54,4 +56,42 @@ pub fn runs_and_changes_are_explained()
 /// No effect runs after its owner's disposal.
 pub fn no_effect_runs_after_its_disposal()
     ensures { OfHistories NoRunAfter }
+{}
+
+/// The counts of pumps are those of the journal, their runs lie between the lane's sets and edits, and the values of
+/// effects that were not left stand.
+pub fn pumps_fit_the_journal()
+    ensures { OfHistories PumpsFit }
+{}
+
+/// Each change is of a memo, and differs from the value before.
+pub fn changes_differ()
+    ensures { OfHistories (λ past p. ChangesDiffer p) }
+{}
+
+/// Operations are answered as they are for a cause.
+pub fn replies_have_their_causes()
+    ensures { OfHistories RepliesCaused }
+{}
+
+/// No operation is refused, and no effect left, for another lane's sake.
+pub fn refusals_are_counted()
+    ensures { OfHistories (λ past p. RefusalsCounted p) }
+{}
+
+/// The operations of a phase draw no more numbers than their shares, so nothing is full where these are no more than are
+/// noted.
+pub fn operations_draw_their_shares()
+    ensures drawn { OfHistories (λ past p. p.drawn ≤ cost_of p) }
+    ensures room { OfHistories (λ past p. HasRoom p) }
+{}
+
+/// A history merges what its lanes did.
+pub fn histories_are_merges()
+    ensures { OfHistories (λ past p. VerdictsFit p → IsMerge past p) }
+{}
+
+/// A history makes a phase of which all holds.
+pub fn histories_make_phases()
+    ensures { OfHistories (λ past p. VerdictsFit p → IsPhase past p) }
 {}
