@@ -8,3 +8,6 @@ mod holding;
 pub mod laws;
 
 pub use held::Held;
+
+#[cfg(test)]
+mod tests;
