@@ -10,3 +10,5 @@ pub mod Carried
 pub mod Computes
 pub mod Renumbered
 pub mod Settled
+pub mod There
+pub mod Present

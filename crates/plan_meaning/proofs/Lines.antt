@@ -46,12 +46,12 @@ in_right : (xs ys all : List Written) → IsIn (xs ++ ys) all → IsIn ys all
 in_right xs ys all is w among = is w (among-append xs ys w (inr among))
 
 -- what stands around, as the standing says it
-record StandsSo (s : Standing) (scene : Scene) : Type 0 where
-  same : s.repeated ≡ is_some scene.row
-  owner : is_in_owner s.inner ≡ true → s.repeated ≡ false
-  branch : s.branched ≡ false → s.repeated ≡ false
+pub record StandsSo (s : Standing) (scene : Scene) : Type 0 where
+  pub same : s.repeated ≡ is_some scene.row
+  pub owner : is_in_owner s.inner ≡ true → s.repeated ≡ false
+  pub branch : s.branched ≡ false → s.repeated ≡ false
 
-no_row : (row : Option RowAround) → is_some row ≡ false → row ≡ None
+pub no_row : (row : Option RowAround) → is_some row ≡ false → row ≡ None
 no_row None is = refl
 no_row (Some row) is = cc
 

@@ -2,6 +2,7 @@ pub mod Renamed
 pub mod Owners
 pub mod Layout
 pub mod Told
+pub mod There
 pub mod Values
 pub mod Settled
 pub mod Carried

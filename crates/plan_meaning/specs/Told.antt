@@ -18,3 +18,7 @@ kind_of_id component id = kind_told (origin_in component id).told
 -- the innermost area around an id, as an owner
 abbrev pub owner_of_id : Component → ℕ → ℕ
 owner_of_id component id = (origin_in component id).around.owner
+
+-- the store with a row of which an id has a value each, if there is one: that of a field, or of the `each` around it
+abbrev pub store_of_id : Component → ℕ → Option ℕ
+store_of_id component id = (origin_in component id).around.store

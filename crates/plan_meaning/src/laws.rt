@@ -19,6 +19,7 @@ ghost use Rattle.plan_meaning.specs.Carried.{AreApart, IsCarried, rows_to};
 ghost use Rattle.plan_meaning.specs.Layout.{is_computed, rows_of, places_of, row_of, plan_of};
 ghost use Rattle.plan_meaning.specs.Renamed.{renumbered};
 ghost use Rattle.plan_meaning.specs.Settled.{AreSettled};
+ghost use Rattle.plan_meaning.specs.There.{is_there, AreNested};
 ghost use Rattle.plan_meaning.specs.Told.{kind_of_id, owner_of_id};
 ghost use Rattle.plan_meaning.specs.Values.{row_values};
 
@@ -47,6 +48,14 @@ pub fn rows_read_back()
     ensures place { (places : List Place) (p : Place) (row : ℕ) → row_of places p ≡ Some row → slice_get places row ≡ Some p }
     ensures there { (ws : List Written) (w : Written) → Among ws w → (row : ℕ) × (row_of (places_of ws) (place_of w) ≡ Some row) }
     ensures none { (ws : List Written) (p : Place) → (row_of (places_of ws) p ≡ None) ↔ (has_place ws p ≡ false) }
+{}
+
+/// A place is written out, and so has a row, exactly where the text gives its id a value, its owner is live, and
+/// its key is that of a row of the store around it, or there is neither.
+pub fn places_are_where_they_are_due()
+    ensures written { (component : ComponentValue) (state : State) → IsKept component → RowsFit component state → AreNested component state → (p : Place) → has_place (written_in component state) p ≡ is_there component state p }
+    ensures none { (component : ComponentValue) (state : State) → IsKept component → RowsFit component state → AreNested component state → (p : Place) → (row_of (places_of (written_in component state)) p ≡ None) ↔ (is_there component state p ≡ false) }
+    ensures row { (component : ComponentValue) (state : State) → IsKept component → RowsFit component state → (row : ℕ) (p : Place) → slice_get (places_of (written_in component state)) row ≡ Some p → is_there component state p ≡ true }
 {}
 
 /// What a row is and whose it is, is what the text says of the id of its place, whatever the state.

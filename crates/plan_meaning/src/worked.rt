@@ -1,5 +1,5 @@
 //! Worked rows of the definitions. Each is the contract of a function that does nothing.
-ghost use Rattle.std.specs.Prelude.{◌≡◌, ℕ, [], ◌∷◌, Some, None};
+ghost use Rattle.std.specs.Prelude.{◌≡◌, ℕ, [], ◌∷◌, Some, None, true, false};
 ghost use Rattle.values.specs.declared.code.Op.TheVariants as op;
 ghost use Rattle.values.specs.declared.expr.Expr.TheVariants.{Lit, Read, Binary};
 ghost use Rattle.values.specs.declared.plan.Kind.TheVariants as kind;
@@ -10,6 +10,7 @@ ghost use Rattle.plain_evaluation.specs.Written.{state_of, written};
 ghost use Rattle.plan_meaning.specs.Carried.{rows_to};
 ghost use Rattle.plan_meaning.specs.Layout.{places_of, row_of, plan_of};
 ghost use Rattle.plan_meaning.specs.Owners.{top_owner, plan_owners};
+ghost use Rattle.plan_meaning.specs.There.{is_there};
 ghost use Rattle.plan_meaning.specs.Worked.{source, memo, effect, owner_in, attributes, areas, titles_fewer};
 
 /// A page as people write it, with two rows in its store.
@@ -60,4 +61,15 @@ pub fn rows_that_go_over()
     ensures fewer { rows_to (places_of (written titles titles_held)) (places_of (written titles titles_fewer)) ≡ None ∷ Some 0 ∷ None ∷ Some 1 ∷ [] }
     ensures more { rows_to (places_of (written titles titles_fewer)) (places_of (written titles titles_held)) ≡ Some 1 ∷ Some 3 ∷ [] }
     ensures nowhere { row_of (places_of (written titles titles_fewer)) (of_row 4 (number 3)) ≡ None }
+{}
+
+/// A place is there where its owner is live and its row is in the store; an area and a store have none themselves.
+pub fn places_that_are_there()
+    ensures live { is_there inside (state_of inner_dead) (outside 1) ≡ true }
+    ensures dead { is_there inside (state_of inner_dead) (outside 3) ≡ false }
+    ensures area { is_there inside (state_of inner_dead) (outside 0) ≡ false }
+    ensures row { is_there titles (state_of titles_held) (of_row 4 (number 3)) ≡ true }
+    ensures no_row { is_there titles (state_of titles_fewer) (of_row 4 (number 3)) ≡ false }
+    ensures no_key { is_there titles (state_of titles_held) (outside 2) ≡ false }
+    ensures store { is_there titles (state_of titles_held) (outside 0) ≡ false }
 {}
