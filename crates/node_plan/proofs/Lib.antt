@@ -1,0 +1,2 @@
+pub mod OwnersLemmas
+pub mod RowsLemmas

@@ -1,0 +1,2 @@
+pub mod OwnersOf
+pub mod Rows

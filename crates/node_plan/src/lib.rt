@@ -1,0 +1,10 @@
+//! The layout of a component in a state: its plan, and which row of it has which place.
+#![tactic(auto)]
+
+mod layout;
+mod nodes;
+mod owners;
+mod rows;
+
+pub use layout::{Laid, lay_out};
+pub use node_names::{Names, NodePlace};
