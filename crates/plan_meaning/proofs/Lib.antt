@@ -12,3 +12,4 @@ pub mod Renumbered
 pub mod Settled
 pub mod There
 pub mod Present
+pub mod Stays

@@ -29,11 +29,12 @@ key_line w key = record { id = suc w.id; scene = w.scene; says = derived kind.Me
 pub record IsProper (all : List Written) (w : Written) : Type 0 where
   pub computed : is_derived (kind_said w.says) ≡ is_computed w.says
   pub load : (pairs : List (Code × Code)) (arrived : Option Code) → w.says ≡ loaded pairs arrived → (w.scene.row ≡ None) × ((key : Expr) × Among all (key_line w key))
+  pub effect : kind_said w.says ≡ kind.Effect → w.scene.row ≡ None
   pub loads : kind_said w.says ≡ kind.Load → (pairs : List (Code × Code)) × (arrived : Option Code) × (w.says ≡ loaded pairs arrived)
 
--- what is no load
-other_line : (all : List Written) (id : ℕ) (scene : Scene) (says : Says) → is_derived (kind_said says) ≡ is_computed says → (kind_said says ≡ kind.Load → ⊥) → ((pairs : List (Code × Code)) (arrived : Option Code) → says ≡ loaded pairs arrived → ⊥) → IsProper all (record { id = id; scene = scene; says = says })
-other_line all id scene says same no_kind no_load = record { computed = same; load = λ pairs arrived is. absurd (no_load pairs arrived is); loads = λ is. absurd (no_kind is) }
+-- what is neither load nor effect
+other_line : (all : List Written) (id : ℕ) (scene : Scene) (says : Says) → is_derived (kind_said says) ≡ is_computed says → (kind_said says ≡ kind.Effect → ⊥) → (kind_said says ≡ kind.Load → ⊥) → ((pairs : List (Code × Code)) (arrived : Option Code) → says ≡ loaded pairs arrived → ⊥) → IsProper all (record { id = id; scene = scene; says = says })
+other_line all id scene says same no_effect no_kind no_load = record { computed = same; load = λ pairs arrived is. absurd (no_load pairs arrived is); effect = λ is. absurd (no_effect is); loads = λ is. absurd (no_kind is) }
 
 -- what is written in here is in the whole
 abbrev IsIn : List Written → List Written → Type 0
@@ -60,7 +61,7 @@ Propers stands writes = (all : List Written) (scene : Scene) (s : Standing) → 
 
 fields_proper : (all : List Written) (first : ℕ) (codes : List Code) (scene : Scene) → Every (IsProper all) (write_fields first codes scene)
 fields_proper all first [] scene = tt
-fields_proper all first (code ∷ codes) scene = (other_line all first scene (given kind.Field code) refl (λ is. cc) (λ pairs arrived is. cc), fields_proper all (suc first) codes scene)
+fields_proper all first (code ∷ codes) scene = (other_line all first scene (given kind.Field code) refl (λ is. cc) (λ is. cc) (λ pairs arrived is. cc), fields_proper all (suc first) codes scene)
 
 rows_proper : (all : List Written) (part : Row → List Written) (rows : List Row) → ((row : Row) → IsIn (part row) all → Every (IsProper all) (part row)) → IsIn (flat_map part rows) all → Every (IsProper all) (flat_map part rows)
 rows_proper all part [] each is = tt
@@ -70,7 +71,7 @@ attrs_proper : (all : List Written) (attrs : List Attr) (scene : Scene) → Ever
 attrs_proper all [] scene = tt
 attrs_proper all (attr.Bare name ∷ attrs) scene = attrs_proper all attrs scene
 attrs_proper all (attr.Fixed name text ∷ attrs) scene = attrs_proper all attrs scene
-attrs_proper all (attr.Shown name id expr ∷ attrs) scene = (other_line all id scene (derived kind.Memo expr) refl (λ is. cc) (λ pairs arrived is. cc), attrs_proper all attrs scene)
+attrs_proper all (attr.Shown name id expr ∷ attrs) scene = (other_line all id scene (derived kind.Memo expr) refl (λ is. cc) (λ is. cc) (λ pairs arrived is. cc), attrs_proper all attrs scene)
 
 module _ (state : State) (pairs : ℕ → List (Code × Code)) where
   abbrev ItemIs : Item → Type 0
@@ -105,13 +106,13 @@ module _ (state : State) (pairs : ℕ → List (Code × Code)) where
   area false all ws every is = tt
 
   by_form : (y : Item-F Proven) → FormIs (map-Item Proven Item (λ k. k.0) y)
-  by_form (level.Signal id name start) all scene s stands so is = (other_line all id scene (given kind.Signal _) refl (λ is. cc) (λ pairs arrived is. cc), tt)
-  by_form (level.Memo id name expr) all scene s stands so is = (other_line all id scene (derived kind.Memo expr) refl (λ is. cc) (λ pairs arrived is. cc), tt)
-  by_form (level.Effect id name expr) all scene s stands so is = (other_line all id scene (derived kind.Effect expr) refl (λ is. cc) (λ pairs arrived is. cc), tt)
+  by_form (level.Signal id name start) all scene s stands so is = (other_line all id scene (given kind.Signal _) refl (λ is. cc) (λ is. cc) (λ pairs arrived is. cc), tt)
+  by_form (level.Memo id name expr) all scene s stands so is = (other_line all id scene (derived kind.Memo expr) refl (λ is. cc) (λ is. cc) (λ pairs arrived is. cc), tt)
+  by_form (level.Effect id name expr) all scene s stands so is = (record { computed = refl; load = λ pairs arrived is. cc; effect = λ is. no_row scene.row (sym so.same ∙ so.owner stands); loads = λ is. cc }, tt)
   by_form (level.Resource id name after keys values) all scene s stands so is = tt
   by_form (level.Load id name resource key) all scene s stands so is = (
-    other_line all (suc id) scene (derived kind.Memo key) refl (λ is. cc) (λ pairs arrived is. cc),
-    (record { computed = refl; load = λ pairs arrived says. (no_row scene.row (sym so.same ∙ so.owner stands), (key, is (record { id = suc id; scene = scene; says = derived kind.Memo key }) (inl refl))); loads = λ is. (pairs resource, state.arrived id, refl) }, tt),
+    other_line all (suc id) scene (derived kind.Memo key) refl (λ is. cc) (λ is. cc) (λ pairs arrived is. cc),
+    (record { computed = refl; load = λ pairs arrived says. (no_row scene.row (sym so.same ∙ so.owner stands), (key, is (record { id = suc id; scene = scene; says = derived kind.Memo key }) (inl refl))); effect = λ is. cc; loads = λ is. (pairs resource, state.arrived id, refl) }, tt),
   )
   by_form (level.Store id name max fields starts) all scene s stands so is =
       rows_proper all (λ row. write_fields (2 + id) row.fields (in_row id row.key scene)) (state.rows id) (λ row here. fields_proper all (2 + id) row.fields (in_row id row.key scene)) is
@@ -121,7 +122,7 @@ module _ (state : State) (pairs : ℕ → List (Code × Code)) where
       let alone = so.branch (not_true s.branched stand.0) in
       area (state.live owner) all (write_all (map (write_item state pairs) (items_of known)) (in_area owner scene)) (block known all (in_area owner scene) (inside_area s) stand.1 (record { same = so.same; owner = λ is. alone; branch = so.branch })) is
   by_form (level.If id cond known) all scene s stands so is =
-      (other_line all id scene (derived kind.Memo cond) refl (λ is. cc) (λ pairs arrived is. cc), block known all scene (inside_if s) stands (record { same = so.same; owner = λ is. cc; branch = λ is. cc }) (λ w among. is w (inr among)))
+      (other_line all id scene (derived kind.Memo cond) refl (λ is. cc) (λ is. cc) (λ pairs arrived is. cc), block known all scene (inside_if s) stands (record { same = so.same; owner = λ is. cc; branch = λ is. cc }) (λ w among. is w (inr among)))
   by_form (level.Each id store known) all scene s stands so is =
       let stand = and_cases (may_have_each s) (stand_all (inside_each s) (map item_stands (items_of known))) stands in
       rows_proper all (λ row. write_all (map (write_item state pairs) (items_of known)) (in_row store row.key scene)) (state.rows store) (λ row. block known all (in_row store row.key scene) (inside_each s) stand.1 (record { same = refl; owner = λ is. cc; branch = λ is. cc })) is
@@ -130,7 +131,7 @@ module _ (state : State) (pairs : ℕ → List (Code × Code)) where
       let rest = write_all (map (write_item state pairs) (items_of known)) scene in
       every-append (IsProper all) first rest (attrs_proper all attrs scene) (block known all scene (inside_element s) stands (record { same = so.same; owner = λ is. cc; branch = so.branch }) (in_right first rest all is))
   by_form (level.Text text) all scene s stands so is = tt
-  by_form (level.Shown id expr) all scene s stands so is = (other_line all id scene (derived kind.Memo expr) refl (λ is. cc) (λ pairs arrived is. cc), tt)
+  by_form (level.Shown id expr) all scene s stands so is = (other_line all id scene (derived kind.Memo expr) refl (λ is. cc) (λ is. cc) (λ pairs arrived is. cc), tt)
 
   item_is : (item : Item) → ItemIs item
   item_is = ind-Item ItemIs (λ x y is. subst (λ z. ItemIs (roll-Item z)) is (rolled (map-Item Proven Item (λ k. k.0) y) (by_form y)))

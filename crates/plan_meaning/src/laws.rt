@@ -83,6 +83,13 @@ pub fn loads_have_their_keys()
     ensures { (component : ComponentValue) (state : State) → IsKept component → RowsFit component state → (row : ℕ) (p : Place) (node : NodeValue) → slice_get (places_of (written_in component state)) row ≡ Some p → slice_get (plan_of component state).nodes row ≡ Some node → node.kind ≡ kind.Load → (p ≡ outside p.id) × ((key : ℕ) × (row_of (places_of (written_in component state)) (outside (suc p.id)) ≡ Some key) × (row < key) × IsSomeAnd (slice_get (plan_of component state).nodes key) (λ n. n.kind ≡ kind.Memo)) }
 {}
 
+/// An effect stands in no row of a store, as a load does. What stands in none was there before, where no area came
+/// back to life: so no effect and no load is new in a later layout.
+pub fn effects_and_loads_are_not_new()
+    ensures effect { (component : ComponentValue) (state : State) → IsKept component → RowsFit component state → (row : ℕ) (p : Place) (node : NodeValue) → slice_get (places_of (written_in component state)) row ≡ Some p → slice_get (plan_of component state).nodes row ≡ Some node → node.kind ≡ kind.Effect → p ≡ outside p.id }
+    ensures before { (component : ComponentValue) (state later : State) → IsKept component → RowsFit component state → RowsFit component later → AreNested component state → ((owner : ℕ) → later.live owner ≡ true → state.live owner ≡ true) → (row : ℕ) (p : Place) → slice_get (places_of (written_in component later)) row ≡ Some p → p ≡ outside p.id → (old : ℕ) × (row_of (places_of (written_in component state)) p ≡ Some old) }
+{}
+
 /// Of a place in two layouts of one component the node is the same but for the numbers of rows, and what it
 /// names is in both.
 pub fn layouts_carry_over()
