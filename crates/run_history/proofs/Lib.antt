@@ -1,14 +1,14 @@
-mod Lists
-mod Journal
-mod Cut
-mod Totals
-mod Facts
-mod Plain
-mod Numbers
-mod Got
-mod Disposals
-mod Pumps
-mod Causes
-mod Counts
-mod Room
-mod Whole
+pub mod Lists
+pub mod Journal
+pub mod Cut
+pub mod Totals
+pub mod Facts
+pub mod Plain
+pub mod Numbers
+pub mod Got
+pub mod Disposals
+pub mod Pumps
+pub mod Causes
+pub mod Counts
+pub mod Room
+pub mod Whole

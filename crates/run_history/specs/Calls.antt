@@ -1,5 +1,6 @@
 -- What each call of one caller leaves of a phase on its way, and what it is told.
-use Rattle.std.specs.Prelude.{◌≡◌, ◌⊎◌, ℕ, ◌+◌, ◌<◌, ◌≤◌, Bool, true, false, Result, Ok, Err, MatchOption, Some, List, [], ◌∷◌, length, slice_get, count_by}
+use Rattle.std.specs.Prelude.{◌≡◌, ◌⊎◌, ℕ, ◌+◌, ◌<◌, ◌≤◌, ◌==◌, if◌then◌else◌, Bool, true, false, Result, Ok, Err, MatchOption, Some, List, [], ◌∷◌, length, slice_get, count_by}
+use Rattle.std.specs.List.{FoldsTo}
 use Rattle.values.specs.declared.code.Code.{Code}
 use Rattle.values.specs.declared.plan.Disposal.{Disposal}
 use Rattle.values.specs.declared.plan.Kind.TheVariants as kind
@@ -140,3 +141,22 @@ SaysAt s g block h pass (edit owner asked (Err why)) = Stops s g block h 1 owner
 -- the call takes the phase from g to h, and notes the block
 abbrev pub Calls : Start → Going → List Noted → Going → ℕ → Call → Type 0
 Calls s g block h pass call = Goes s g block h × SaysAt s g block h pass call
+
+-- ---- calls one after another
+
+-- a call that was made, and by which pass
+pub record MadeCall : Type 0 where
+  pub pass : ℕ
+  pub call : Call
+
+abbrev pub Makes : Start → Going → MadeCall → Going → Type 0
+Makes s g m h = (block : List Noted) × Calls s g block h m.pass m.call
+
+-- the calls take the phase from g to k
+abbrev pub CallsLead : Start → Going → List MadeCall → Going → Type 0
+CallsLead s g calls k = FoldsTo (Makes s) g calls k
+
+-- the calls of a pass, in its order
+abbrev pub calls_by : ℕ → List MadeCall → List Call
+calls_by pass [] = []
+calls_by pass (m ∷ ms) = if pass == m.pass then m.call ∷ calls_by pass ms else calls_by pass ms

@@ -1,0 +1,4 @@
+mod Weave
+mod Link
+mod Whole
+mod Opens
