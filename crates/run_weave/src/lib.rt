@@ -1,5 +1,5 @@
-//! The operations of lanes are woven into the calls of the graph that they
-//! make, with those that make none between them. These are definitions with their laws. There is no code here.
+//! The operations of lanes are woven into the calls of the graph that they make, with those that make none between
+//! them. These are definitions with their laws. There is no code here: the crates above cite them in their contracts.
 #![tactic(auto)]
 
 pub mod laws;
