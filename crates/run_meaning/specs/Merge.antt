@@ -1,5 +1,5 @@
 -- The journal of a phase is a merge of what its lanes did. What is said of lanes speaks of their replies and of entries alone.
-use Rattle.std.specs.Prelude.{◌≡◌, ◌≢◌, ◌⊎◌, ℕ, ◌+◌, ◌≤◌, Bool, true, false, ◌&&◌, ◌||◌, nat_lt, Option, Some, None, IfSome, IsSomeAnd, unwrap_or, List, [], ◌∷◌, ◌++◌, length, slice_get, sum_by, count_by}
+use Rattle.std.specs.Prelude.{◌≡◌, ◌≢◌, ◌⊎◌, ℕ, ◌+◌, ◌≤◌, Bool, true, false, ◌&&◌, ◌||◌, nat_lt, Option, Some, None, is_some, IfSome, IsSomeAnd, unwrap_or, List, [], ◌∷◌, ◌++◌, length, slice_get, sum_by, count_by}
 use Rattle.std.specs.List.{list_all, list_any, AllByRecursion}
 use Rattle.std.specs.Option.{option_map_or, option_and_then, option_or}
 use Rattle.values.specs.declared.code.Code.{Code}
@@ -19,7 +19,7 @@ use Rattle.plain_evaluation.specs.Sound.{is_effect}
 use Rattle.plan_meaning.specs.Layout.{row_of}
 use Rattle.run_meaning.specs.Words.{In, GrowsFrom, times}
 use Rattle.run_meaning.specs.Opened.{Opened, node_at, IsKind, opening_code, area_of, is_inside}
-use Rattle.run_meaning.specs.Lane.{Done, Everywhere, numbers, edits_in, own, set_row, code_in, area_in, disposal_in, pumped_in}
+use Rattle.run_meaning.specs.Lane.{Done, Everywhere, numbers, edits_in, own, set_row, code_in, area_in, edit_in, disposal_in, pumped_in}
 use Rattle.run_meaning.specs.Entries.{fact_at, own_numbers, last_change, is_ran, is_void, last_ran, disposed_by, disposed_in}
 use Rattle.run_meaning.specs.Edits.{held_written, verdict_in, edits_of}
 use Rattle.run_meaning.specs.Explained.{Explained}
@@ -28,11 +28,7 @@ use Rattle.run_meaning.specs.Phase.{Phase, disposed_before}
 -- ---- one: each operation has one answer, of its kind
 
 abbrev pub is_set : ScriptOp → Bool
-is_set (op.Set id key code) = true
-is_set (op.Get id key) = false
-is_set op.Pump = false
-is_set (op.Dispose owner) = false
-is_set (op.Change edit) = false
+is_set x = is_some (code_in x)
 
 abbrev pub is_get : ScriptOp → Bool
 is_get (op.Set id key code) = false
@@ -49,18 +45,10 @@ is_pump (op.Dispose owner) = false
 is_pump (op.Change edit) = false
 
 abbrev pub is_dispose : ScriptOp → Bool
-is_dispose (op.Set id key code) = false
-is_dispose (op.Get id key) = false
-is_dispose op.Pump = false
-is_dispose (op.Dispose owner) = true
-is_dispose (op.Change edit) = false
+is_dispose x = is_some (area_in x)
 
 abbrev pub is_edit : ScriptOp → Bool
-is_edit (op.Set id key code) = false
-is_edit (op.Get id key) = false
-is_edit op.Pump = false
-is_edit (op.Dispose owner) = false
-is_edit (op.Change edit) = true
+is_edit x = is_some (edit_in x)
 
 abbrev pub is_answer : ScriptOp → Reply → Bool
 is_answer x (reply.Set n) = is_set x
