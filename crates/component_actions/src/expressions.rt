@@ -20,20 +20,25 @@ fn pop_operand(operands: &mut Stack<Expr>) -> Expr
     }
 }
 
+/// Both expressions, in memory of their own.
+fn boxed(alloc: Global, left: Expr, right: Expr) -> Result<(Boxed<Expr>, Boxed<Expr>), AllocError>
+    ensures { IfOk result (λ pair. (pair.0 ≡ left) × (pair.1 ≡ right)) }
+{
+    Ok((Boxed::new(alloc, left)?, Boxed::new(alloc, right)?))
+}
+
 fn binary(alloc: Global, op: Op, left: Expr, right: Expr) -> Result<Expr, AllocError>
     ensures { IfOk result (λ e. e ≡ Expr.Binary op left right) }
 {
-    Ok(Expr::Binary(op, Boxed::new(alloc, left)?, Boxed::new(alloc, right)?))
+    let (left, right) = boxed(alloc, left, right)?;
+    Ok(Expr::Binary(op, left, right))
 }
 
 fn choice(alloc: Global, cond: Expr, yes: Expr, no: Expr) -> Result<Expr, AllocError>
     ensures { IfOk result (λ e. e ≡ Expr.If cond yes no) }
 {
-    Ok(Expr::If(
-        Boxed::new(alloc, cond)?,
-        Boxed::new(alloc, yes)?,
-        Boxed::new(alloc, no)?,
-    ))
+    let (yes, no) = boxed(alloc, yes, no)?;
+    Ok(Expr::If(Boxed::new(alloc, cond)?, yes, no))
 }
 
 /// The operator stands between the last two operands.

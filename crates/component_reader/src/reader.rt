@@ -36,8 +36,10 @@ fn read_state(alloc: Global, bytes: &[u8]) -> Result<ComponentState, Refusal>
     ensures ok { IfOk result (IsReadTo component_text bytes.now) }
     ensures bad { IfErr result (IsRefusedOr component_text bytes.now) }
 {
-    let first = ComponentState::new(alloc).map_err(|_| Refusal::NoMemory)?;
-    read_bytes::<Terminal, Rule, Action, ComponentState>(alloc, first, bytes, 1)
+    match ComponentState::new(alloc) {
+        Ok(first) => read_bytes::<Terminal, Rule, Action, ComponentState>(alloc, first, bytes, 1),
+        Err(_) => Err(Refusal::NoMemory),
+    }
 }
 
 /// Too many nodes, which are refused at the end of the bytes.

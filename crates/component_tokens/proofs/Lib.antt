@@ -1,2 +1,3 @@
 pub mod NegatedKeys
+pub mod TextKeys
 pub mod Whole

@@ -1,6 +1,5 @@
 -- The key that begins with a `-`.
 use Rattle.std.proofs.Common.{◌≡◌, ℕ, Bool, true, false, ◌&&◌, nat_le, if◌then◌else◌, Option, Some, None, Ok, Err, List, refl}
-use Rattle.values.specs.declared.code.Code.{Code}
 use Rattle.text_lexer.specs.Tokens.{Lexed}
 use Rattle.text_grammar.specs.Class.{is_number}
 use Rattle.text_grammar.specs.Kind.{kind_of}

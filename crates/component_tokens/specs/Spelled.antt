@@ -8,8 +8,10 @@ use Rattle.component_items.specs.declared.refusal.Place.{Place}
 use Rattle.component_items.specs.declared.refusal.Refusal.{Refusal}
 use Rattle.component_items.specs.declared.refusal.Refusal.TheVariants.{Bad}
 use Rattle.component_items.specs.declared.refusal.Why.TheVariants.{TooLarge, NumberRange, WrongPlace, NameTaken, UnclosedTag}
+use Rattle.text_grammar.specs.declared.component.Terminal.{Terminal}
+use Rattle.text_lexer.specs.Tokens.{Lexed}
 use Rattle.component_meaning.specs.State.{State}
-use Rattle.component_meaning.specs.Names.{bytes_of, place_of, value_in, greatest, wide_in, first_of, is_raw_tag, is_full, has_attribute, is_open_tag}
+use Rattle.component_meaning.specs.Names.{bytes_of, place_of, value_in, greatest, wide_in, first_of, is_raw_tag, is_full, has_attribute, is_open_tag, goes_on, is_attribute_name, is_close_name}
 
 -- the token is a number that is too great
 abbrev pub is_wide : List ℕ → Token → Bool
@@ -42,3 +44,11 @@ attribute_refusal a = if has_attribute a.spelling.bytes a then Some (Bad NameTak
 
 abbrev pub close_refusal : State → Option Refusal
 close_refusal a = if is_open_tag a.spelling.bytes a then wide_refusal a else Some (Bad UnclosedTag a.spelling.place)
+
+-- by what the name stands for
+abbrev pub name_refusal : Terminal → State → Option Refusal
+name_refusal t a = if is_close_name t then close_refusal a else (if is_attribute_name t then attribute_refusal a else open_refusal a)
+
+-- what comes next leaves the name whole or not
+abbrev pub settled : List ℕ → Terminal → Lexed → State → Option Refusal
+settled text t next a = if goes_on text next then None else name_refusal t a

@@ -17,10 +17,7 @@ use crate::literals::{
     count_token,
 };
 use crate::numbers::{accept_after_number, accept_max_number};
-use crate::tags::{
-    accept_attribute_name, accept_attribute_part, accept_close_tag, accept_close_tag_part,
-    accept_dash, accept_open_tag, accept_open_tag_part,
-};
+use crate::tags::{accept_dash, accept_name, accept_part};
 use crate::uses::{accept_row_field, accept_used_name, accept_used_resource, accept_used_store};
 use crate::written::accept_written;
 use component_draft::Draft;
@@ -28,19 +25,8 @@ use component_items::{Refusal, Why};
 use std::alloc::Global;
 use text_grammar::component::Terminal;
 use text_lexer::{BadToken, Lexer, Token};
-use token_parts::refused;
+use token_parts::{check, refused};
 use values::limits::MOST_OPEN;
-
-/// Refuses what may not stand where it does.
-fn placed(may_stand: bool, token: Token) -> Result<(), Refusal>
-    ensures ok { OnOk result (may_stand ≡ true) }
-    ensures wrong_place { IfErr result (λ e. (may_stand ≡ false) × (e ≡ Refusal.Bad Why.WrongPlace (place_of token))) }
-{
-    if may_stand {
-        return Ok(());
-    }
-    Err(refused(Why::WrongPlace, token))
-}
 
 /// Refuses what opens a block or element too many.
 fn opens(draft: &Draft, token: Token) -> Result<(), Refusal>
@@ -63,7 +49,7 @@ fn accept_row(
     ensures { Accepts (meaning.accept_token lexer.now.text Terminal.Row draft.old (Ok token) next) result draft.new }
 {
     count_token(draft, token)?;
-    placed(draft.blocks.rows().is_some(), token)
+    check(draft.blocks.rows().is_some(), Why::WrongPlace, token)
 }
 
 /// Takes a token for a terminal that it stands for, or says which check it fails. After a refusal the state is of
@@ -83,13 +69,13 @@ pub fn accept_token(
 {
     match terminal {
         Terminal::Signal | Terminal::Effect | Terminal::Load | Terminal::Store => {
-            placed(draft.blocks.may_declare(), token)
+            check(draft.blocks.may_declare(), Why::WrongPlace, token)
         }
-        Terminal::Memo => placed(draft.blocks.may_have_memo(), token),
-        Terminal::Resource => placed(draft.blocks.may_have_resource(), token),
-        Terminal::Cleanup => placed(draft.blocks.may_have_cleanup(), token),
-        Terminal::Area => placed(draft.blocks.may_have_area(), token),
-        Terminal::Each => placed(draft.blocks.may_have_each(), token),
+        Terminal::Memo => check(draft.blocks.may_have_memo(), Why::WrongPlace, token),
+        Terminal::Resource => check(draft.blocks.may_have_resource(), Why::WrongPlace, token),
+        Terminal::Cleanup => check(draft.blocks.may_have_cleanup(), Why::WrongPlace, token),
+        Terminal::Area => check(draft.blocks.may_have_area(), Why::WrongPlace, token),
+        Terminal::Each => check(draft.blocks.may_have_each(), Why::WrongPlace, token),
         Terminal::Less | Terminal::OpenBlock => opens(draft, token),
         Terminal::TextItem | Terminal::CleanupText | Terminal::AttributeText => {
             accept_written(draft, alloc, lexer, token, next)
@@ -106,13 +92,13 @@ pub fn accept_token(
         Terminal::NumberKey => accept_number_key(draft, lexer, token, next),
         Terminal::KeyMinus => accept_key_minus(draft, lexer, token, next),
         Terminal::NegatedKey => accept_negated_key(draft, lexer, token, next),
-        Terminal::OpenTag | Terminal::VoidTag => accept_open_tag(draft, lexer, token, next),
+        Terminal::OpenTag | Terminal::VoidTag | Terminal::AttributeName | Terminal::CloseTag => {
+            accept_name(draft, lexer, terminal, token, next)
+        }
+        Terminal::OpenTagPart | Terminal::AttributePart | Terminal::CloseTagPart => {
+            accept_part(draft, lexer, terminal, token, next)
+        }
         Terminal::Dash => accept_dash(draft, lexer, token, next),
-        Terminal::OpenTagPart => accept_open_tag_part(draft, lexer, token, next),
-        Terminal::AttributeName => accept_attribute_name(draft, lexer, token, next),
-        Terminal::AttributePart => accept_attribute_part(draft, lexer, token, next),
-        Terminal::CloseTag => accept_close_tag(draft, lexer, token, next),
-        Terminal::CloseTagPart => accept_close_tag_part(draft, lexer, token, next),
         Terminal::Closer => Err(refused(Why::UnclosedTag, token)),
         Terminal::UsedName => accept_used_name(draft, lexer, token, next),
         Terminal::Row => accept_row(draft, lexer, token, next),

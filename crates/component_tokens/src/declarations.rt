@@ -12,7 +12,7 @@ use component_draft::Draft;
 use component_items::{Count, Refusal, Why};
 use text_grammar::component::Terminal;
 use text_lexer::{BadToken, Lexer, Token};
-use token_parts::{add_found, is_key, place_of, refused};
+use token_parts::{add_found, check, is_key, place_of, refused};
 use values::limits::MOST_OWNERS;
 
 /// What a name stands for here, by its number in the table of texts.
@@ -41,9 +41,7 @@ pub(crate) fn accept_new_name(
 {
     let name = lexer.slice(&token);
     let found = draft.texts.find(name);
-    if named(draft, found).is_some() {
-        return Err(refused(Why::NameTaken, token));
-    }
+    check(named(draft, found).is_none(), Why::NameTaken, token)?;
     draft.name = add_found(&mut draft.texts, found, name, place_of(token))?;
     Ok(())
 }
@@ -60,9 +58,7 @@ pub(crate) fn accept_new_area(
 {
     let name = lexer.slice(&token);
     let found = draft.texts.find(name);
-    if named(draft, found).is_some() {
-        return Err(refused(Why::NameTaken, token));
-    }
+    check(named(draft, found).is_none(), Why::NameTaken, token)?;
     if draft.next_owner as usize >= MOST_OWNERS {
         return Err(refused(Why::TooLarge(Count::Owners), token));
     }

@@ -5,16 +5,18 @@ ghost use Rattle.text_lexer.specs.Token.{IsTokenOf};
 ghost use Rattle.token_reader.specs.Rules.{Accepts};
 ghost use Rattle.component_meaning.specs.Checks as checks;
 ghost use Rattle.component_meaning.specs.Meaning.{accept_token};
+ghost use Rattle.component_meaning.specs.Names.{place_of as place_in};
 ghost use Rattle.text_grammar.specs.declared.kind.Kind.TheVariants.{Text};
 ghost use Rattle.text_grammar.specs.Class.{is_number, is_same};
 ghost use Rattle.text_grammar.specs.Kind.{kind_of};
+ghost use Rattle.component_tokens.specs.Keys.{text_key_or_refusal};
 
 use component_draft::Draft;
 use component_items::{Refusal, Why};
 use std::alloc::Global;
 use text_grammar::component::Terminal;
 use text_lexer::{BadToken, Lexer, Token};
-use token_parts::{add_found, content, negated, negated_next, number, place_of, refused};
+use token_parts::{add_found, check, content, negated, negated_next, number, place_of};
 use values::Code;
 
 /// Nothing, as a key.
@@ -27,9 +29,7 @@ pub(crate) fn accept_empty_key(
     requires { IsTokenOf lexer.now.text token }
     ensures { Accepts (accept_token lexer.now.text Terminal.EmptyKey draft.old (Ok token) next) result draft.new }
 {
-    if draft.keys.contains(Code::Empty) {
-        return Err(refused(Why::NameTaken, token));
-    }
+    check(!draft.keys.contains(Code::Empty), Why::NameTaken, token)?;
     draft.keys.push(Code::Empty)?;
     Ok(())
 }
@@ -45,12 +45,8 @@ pub(crate) fn accept_number_key(
     requires number { is_number (kind_of lexer.now.text (Ok token)).kind ≡ true }
     ensures { Accepts (accept_token lexer.now.text Terminal.NumberKey draft.old (Ok token) next) result draft.new }
 {
-    let Some(key) = number(lexer, token) else {
-        return Err(refused(Why::NumberRange, token));
-    };
-    if draft.keys.contains(key) {
-        return Err(refused(Why::NameTaken, token));
-    }
+    let key = number(lexer, token)?;
+    check(!draft.keys.contains(key), Why::NameTaken, token)?;
     draft.keys.push(key)?;
     Ok(())
 }
@@ -77,10 +73,7 @@ pub(crate) fn accept_key_minus(
     requires next_of_text { IfOk next (IsTokenOf lexer.now.text) }
     ensures { Accepts (accept_token lexer.now.text Terminal.KeyMinus draft.old (Ok token) next) result draft.new }
 {
-    if has_negated_key(draft, lexer, next) {
-        return Err(refused(Why::NameTaken, token));
-    }
-    Ok(())
+    check(!has_negated_key(draft, lexer, next), Why::NameTaken, token)
 }
 
 /// A number behind its `-`, as a key.
@@ -94,9 +87,7 @@ pub(crate) fn accept_negated_key(
     requires number { is_number (kind_of lexer.now.text (Ok token)).kind ≡ true }
     ensures { Accepts (accept_token lexer.now.text Terminal.NegatedKey draft.old (Ok token) next) result draft.new }
 {
-    let Some(key) = negated(lexer, token) else {
-        return Err(refused(Why::NumberRange, token));
-    };
+    let key = negated(lexer, token)?;
     draft.keys.push(key)?;
     Ok(())
 }
@@ -113,12 +104,19 @@ pub(crate) fn accept_text_key(
     requires text { is_same Text (kind_of lexer.now.text (Ok token)).kind ≡ true }
     ensures { Accepts (accept_token lexer.now.text Terminal.TextKey draft.old (Ok token) next) result draft.new }
 {
-    let text = content(alloc, lexer, token).map_err(|_| Refusal::NoMemory)?;
-    let found = draft.texts.find(text.as_str());
-    if has_text_key(draft, found) {
-        return Err(refused(Why::NameTaken, token));
+    match content(alloc, lexer, token) {
+        Ok(text) => push_text_key(draft, text.as_str(), token),
+        Err(_) => Err(Refusal::NoMemory),
     }
-    let number = add_found(&mut draft.texts, found, text.as_str(), place_of(token))?;
+}
+
+/// This text, which the token brings, is a key.
+fn push_text_key(draft: &mut Draft, text: &str, token: Token) -> Result<(), Refusal>
+    ensures { Accepts (text_key_or_refusal text.now (place_in token) draft.old) result draft.new }
+{
+    let found = draft.texts.find(text);
+    check(!has_text_key(draft, found), Why::NameTaken, token)?;
+    let number = add_found(&mut draft.texts, found, text, place_of(token))?;
     draft.keys.push(Code::Word(number))?;
     Ok(())
 }

@@ -1,6 +1,6 @@
 //! The tokens of an expression, but for names.
 
-ghost use Rattle.std.specs.Prelude.{◌≡◌, true, false, nat_le, Ok, Err, IfOk, OnOk, IfErr};
+ghost use Rattle.std.specs.Prelude.{◌≡◌, true, false, nat_le, Ok, IfOk, OnOk, IfErr};
 ghost use Rattle.text_lexer.specs.Token.{IsTokenOf};
 ghost use Rattle.text_grammar.specs.declared.kind.Kind.TheVariants.{Text};
 ghost use Rattle.text_grammar.specs.Class.{is_number, is_same};
@@ -58,10 +58,7 @@ pub(crate) fn accept_number_literal(
     ensures { Accepts (accept_token lexer.now.text Terminal.NumberLiteral draft.old (Ok token) next) result draft.new }
 {
     count_token(draft, token)?;
-    let Some(code) = number(lexer, token) else {
-        return Err(refused(Why::NumberRange, token));
-    };
-    draft.literal = code;
+    draft.literal = number(lexer, token)?;
     Ok(())
 }
 
@@ -77,10 +74,7 @@ pub(crate) fn accept_negated_literal(
     ensures { Accepts (accept_token lexer.now.text Terminal.NegatedLiteral draft.old (Ok token) next) result draft.new }
 {
     count_token(draft, token)?;
-    let Some(code) = negated(lexer, token) else {
-        return Err(refused(Why::NumberRange, token));
-    };
-    draft.literal = code;
+    draft.literal = negated(lexer, token)?;
     Ok(())
 }
 

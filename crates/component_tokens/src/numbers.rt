@@ -11,8 +11,8 @@ use component_draft::Draft;
 use component_items::{Count, Refusal, Why};
 use text_grammar::component::Terminal;
 use text_lexer::{BadToken, Lexer, Token};
-use token_parts::{refused, value_up_to};
-use values::limits::{GREATEST_NUMBER, MOST_ROWS};
+use token_parts::{refused, value};
+use values::limits::MOST_ROWS;
 
 /// The number of a resource.
 pub(crate) fn accept_after_number(
@@ -25,10 +25,7 @@ pub(crate) fn accept_after_number(
     requires number { is_number (kind_of lexer.now.text (Ok token)).kind ≡ true }
     ensures { Accepts (accept_token lexer.now.text Terminal.AfterNumber draft.old (Ok token) next) result draft.new }
 {
-    let Some(value) = value_up_to(lexer, token, GREATEST_NUMBER) else {
-        return Err(refused(Why::NumberRange, token));
-    };
-    draft.number = value;
+    draft.number = value(lexer, token)?;
     Ok(())
 }
 
@@ -43,12 +40,10 @@ pub(crate) fn accept_max_number(
     requires number { is_number (kind_of lexer.now.text (Ok token)).kind ≡ true }
     ensures { Accepts (accept_token lexer.now.text Terminal.MaxNumber draft.old (Ok token) next) result draft.new }
 {
-    let Some(value) = value_up_to(lexer, token, GREATEST_NUMBER) else {
-        return Err(refused(Why::NumberRange, token));
-    };
-    if value as usize > MOST_ROWS {
+    let most = value(lexer, token)?;
+    if most as usize > MOST_ROWS {
         return Err(refused(Why::TooLarge(Count::StoreRows), token));
     }
-    draft.number = value;
+    draft.number = most;
     Ok(())
 }

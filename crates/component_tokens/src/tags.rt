@@ -1,6 +1,6 @@
 //! The names of tags and attributes.
 
-ghost use Rattle.std.specs.Prelude.{◌≡◌, Ok, Some, None, IfOk, OnOk};
+ghost use Rattle.std.specs.Prelude.{◌≡◌, true, Ok, Some, None, IfOk, OnOk, IfErr};
 ghost use Rattle.text_lexer.specs.Token.{IsTokenOf};
 ghost use Rattle.token_reader.specs.Rules.{Accepts};
 ghost use Rattle.component_meaning.specs.Meaning.{accept_token};
@@ -59,18 +59,25 @@ fn wide_refusal(draft: &Draft) -> Option<Refusal>
     Some(Refusal::Bad(Why::NumberRange, place))
 }
 
+/// Why there may be no room for the whole name in the table of texts.
+fn room_refusal(draft: &Draft) -> Option<Refusal>
+    ensures { result ≡ spec.room_refusal draft.now }
+{
+    if is_full(&draft.texts, draft.spelling.as_str()) {
+        let place = draft.spelling.place();
+        return Some(Refusal::Bad(Why::TooLarge(Count::Texts), place));
+    }
+    wide_refusal(draft)
+}
+
 /// Why the whole name may be no tag of an element that opens.
 fn open_refusal(draft: &Draft) -> Option<Refusal>
     ensures { result ≡ spec.open_refusal draft.now }
 {
-    let place = draft.spelling.place();
     if is_raw_tag(draft.spelling.as_str()) {
-        return Some(Refusal::Bad(Why::WrongPlace, place));
+        return Some(Refusal::Bad(Why::WrongPlace, draft.spelling.place()));
     }
-    if is_full(&draft.texts, draft.spelling.as_str()) {
-        return Some(Refusal::Bad(Why::TooLarge(Count::Texts), place));
-    }
-    wide_refusal(draft)
+    room_refusal(draft)
 }
 
 /// Whether the innermost open element has an attribute of the whole name.
@@ -87,14 +94,10 @@ fn has_attribute(draft: &Draft) -> bool
 fn attribute_refusal(draft: &Draft) -> Option<Refusal>
     ensures { result ≡ spec.attribute_refusal draft.now }
 {
-    let place = draft.spelling.place();
     if has_attribute(draft) {
-        return Some(Refusal::Bad(Why::NameTaken, place));
+        return Some(Refusal::Bad(Why::NameTaken, draft.spelling.place()));
     }
-    if is_full(&draft.texts, draft.spelling.as_str()) {
-        return Some(Refusal::Bad(Why::TooLarge(Count::Texts), place));
-    }
-    wide_refusal(draft)
+    room_refusal(draft)
 }
 
 /// Whether the whole name is the tag of the innermost open element.
@@ -120,131 +123,91 @@ fn close_refusal(draft: &Draft) -> Option<Refusal>
     wide_refusal(draft)
 }
 
-/// The first part of a tag that opens an element.
-pub(crate) fn accept_open_tag(
+/// Whether it is the name of an attribute.
+fn is_attribute_name(terminal: Terminal) -> bool
+    ensures { result ≡ names.is_attribute_name terminal }
+{
+    match terminal {
+        Terminal::AttributeName | Terminal::AttributePart => true,
+        _ => false,
+    }
+}
+
+/// Whether it is the tag of an element that closes.
+fn is_close_name(terminal: Terminal) -> bool
+    ensures { result ≡ names.is_close_name terminal }
+{
+    match terminal {
+        Terminal::CloseTag | Terminal::CloseTagPart => true,
+        _ => false,
+    }
+}
+
+/// Why the whole name may not be what it stands for.
+fn name_refusal(draft: &Draft, terminal: Terminal) -> Option<Refusal>
+    ensures { result ≡ spec.name_refusal terminal draft.now }
+{
+    if is_close_name(terminal) {
+        return close_refusal(draft);
+    }
+    if is_attribute_name(terminal) {
+        return attribute_refusal(draft);
+    }
+    open_refusal(draft)
+}
+
+/// The name with this token is whole, where no `-` touches the token.
+fn settle_name(
+    draft: &Draft,
+    lexer: &Lexer<'_>,
+    terminal: Terminal,
+    next: Result<Token, BadToken>,
+) -> Result<(), Refusal>
+    requires { IfOk next (IsTokenOf lexer.now.text) }
+    ensures ok { OnOk result (spec.settled lexer.now.text terminal next draft.now ≡ None) }
+    ensures refused { IfErr result (λ e. spec.settled lexer.now.text terminal next draft.now ≡ Some e) }
+{
+    if goes_on(lexer, next) {
+        return Ok(());
+    }
+    match name_refusal(draft, terminal) {
+        None => Ok(()),
+        Some(refusal) => Err(refusal),
+    }
+}
+
+/// The first part of a tag or of the name of an attribute.
+pub(crate) fn accept_name(
     draft: &mut Draft,
     lexer: &Lexer<'_>,
+    terminal: Terminal,
     token: Token,
     next: Result<Token, BadToken>,
 ) -> Result<(), Refusal>
     requires of_text { IsTokenOf lexer.now.text token }
     requires next_of_text { IfOk next (IsTokenOf lexer.now.text) }
-    ensures plain { Accepts (accept_token lexer.now.text Terminal.OpenTag draft.old (Ok token) next) result draft.new }
-    ensures void { Accepts (accept_token lexer.now.text Terminal.VoidTag draft.old (Ok token) next) result draft.new }
+    requires begins { names.begins_name terminal ≡ true }
+    ensures { Accepts (accept_token lexer.now.text terminal draft.old (Ok token) next) result draft.new }
 {
     begin_name(draft, lexer, token)?;
-    if goes_on(lexer, next) {
-        return Ok(());
-    }
-    match open_refusal(draft) {
-        None => Ok(()),
-        Some(refusal) => Err(refusal),
-    }
+    settle_name(draft, lexer, terminal, next)
 }
 
-/// A further part of a tag that opens an element.
-pub(crate) fn accept_open_tag_part(
+/// A further part of one.
+pub(crate) fn accept_part(
     draft: &mut Draft,
     lexer: &Lexer<'_>,
+    terminal: Terminal,
     token: Token,
     next: Result<Token, BadToken>,
 ) -> Result<(), Refusal>
     requires of_text { IsTokenOf lexer.now.text token }
     requires next_of_text { IfOk next (IsTokenOf lexer.now.text) }
-    ensures { Accepts (accept_token lexer.now.text Terminal.OpenTagPart draft.old (Ok token) next) result draft.new }
+    requires continues { names.continues_name terminal ≡ true }
+    ensures { Accepts (accept_token lexer.now.text terminal draft.old (Ok token) next) result draft.new }
 {
     extend_name(draft, lexer, token)?;
-    if goes_on(lexer, next) {
-        return Ok(());
-    }
-    match open_refusal(draft) {
-        None => Ok(()),
-        Some(refusal) => Err(refusal),
-    }
-}
-
-/// The first part of the name of an attribute.
-pub(crate) fn accept_attribute_name(
-    draft: &mut Draft,
-    lexer: &Lexer<'_>,
-    token: Token,
-    next: Result<Token, BadToken>,
-) -> Result<(), Refusal>
-    requires of_text { IsTokenOf lexer.now.text token }
-    requires next_of_text { IfOk next (IsTokenOf lexer.now.text) }
-    ensures { Accepts (accept_token lexer.now.text Terminal.AttributeName draft.old (Ok token) next) result draft.new }
-{
-    begin_name(draft, lexer, token)?;
-    if goes_on(lexer, next) {
-        return Ok(());
-    }
-    match attribute_refusal(draft) {
-        None => Ok(()),
-        Some(refusal) => Err(refusal),
-    }
-}
-
-/// A further part of the name of an attribute.
-pub(crate) fn accept_attribute_part(
-    draft: &mut Draft,
-    lexer: &Lexer<'_>,
-    token: Token,
-    next: Result<Token, BadToken>,
-) -> Result<(), Refusal>
-    requires of_text { IsTokenOf lexer.now.text token }
-    requires next_of_text { IfOk next (IsTokenOf lexer.now.text) }
-    ensures { Accepts (accept_token lexer.now.text Terminal.AttributePart draft.old (Ok token) next) result draft.new }
-{
-    extend_name(draft, lexer, token)?;
-    if goes_on(lexer, next) {
-        return Ok(());
-    }
-    match attribute_refusal(draft) {
-        None => Ok(()),
-        Some(refusal) => Err(refusal),
-    }
-}
-
-/// The first part of a tag that closes an element.
-pub(crate) fn accept_close_tag(
-    draft: &mut Draft,
-    lexer: &Lexer<'_>,
-    token: Token,
-    next: Result<Token, BadToken>,
-) -> Result<(), Refusal>
-    requires of_text { IsTokenOf lexer.now.text token }
-    requires next_of_text { IfOk next (IsTokenOf lexer.now.text) }
-    ensures { Accepts (accept_token lexer.now.text Terminal.CloseTag draft.old (Ok token) next) result draft.new }
-{
-    begin_name(draft, lexer, token)?;
-    if goes_on(lexer, next) {
-        return Ok(());
-    }
-    match close_refusal(draft) {
-        None => Ok(()),
-        Some(refusal) => Err(refusal),
-    }
-}
-
-/// A further part of a tag that closes an element.
-pub(crate) fn accept_close_tag_part(
-    draft: &mut Draft,
-    lexer: &Lexer<'_>,
-    token: Token,
-    next: Result<Token, BadToken>,
-) -> Result<(), Refusal>
-    requires of_text { IsTokenOf lexer.now.text token }
-    requires next_of_text { IfOk next (IsTokenOf lexer.now.text) }
-    ensures { Accepts (accept_token lexer.now.text Terminal.CloseTagPart draft.old (Ok token) next) result draft.new }
-{
-    extend_name(draft, lexer, token)?;
-    if goes_on(lexer, next) {
-        return Ok(());
-    }
-    match close_refusal(draft) {
-        None => Ok(()),
-        Some(refusal) => Err(refusal),
-    }
+    settle_name(draft, lexer, terminal, next)
 }
 
 /// The `-` within a name. Where the name never becomes whole, a number in it that is too great is refused here.

@@ -1,19 +1,32 @@
 //! Names that are used.
 
-ghost use Rattle.std.specs.Prelude.{◌≡◌, Ok, IfOk};
+ghost use Rattle.std.specs.Prelude.{◌≡◌, Ok, None, Some, IfOk, IfErr};
 ghost use Rattle.text_lexer.specs.Token.{IsTokenOf};
 ghost use Rattle.token_reader.specs.Rules.{Accepts};
 ghost use Rattle.component_meaning.specs.Meaning.{accept_token};
-ghost use Rattle.component_meaning.specs.Names.{part_in};
+ghost use Rattle.component_meaning.specs.Names.{bytes_of, place_of, declared_as, part_in};
 
 use crate::declarations::declared;
 use crate::literals::count_token;
+use component_blocks::Declaration;
 use component_draft::Draft;
 use component_items::{Refusal, Why};
 use text_grammar::component::Terminal;
 use text_lexer::{BadToken, Lexer, Token};
-use token_parts::{is_key, refused};
+use token_parts::{check, is_key, refused};
 use values::Expr;
+
+/// What a name stands for here. One that stands for nothing is refused.
+fn known<'d>(draft: &'d Draft, lexer: &Lexer<'_>, token: Token) -> Result<&'d Declaration, Refusal>
+    requires { IsTokenOf lexer.now.text token }
+    ensures known { IfOk result (λ declaration. declared_as (bytes_of lexer.now.text token) draft.entry.now ≡ Some declaration.now) }
+    ensures unknown { IfErr result (λ e. (declared_as (bytes_of lexer.now.text token) draft.entry.now ≡ None) × (e ≡ Refusal.Bad Why.UnknownName (place_of token))) }
+{
+    match declared(draft, lexer.slice(&token)) {
+        Some(declaration) => Ok(declaration),
+        None => Err(refused(Why::UnknownName, token)),
+    }
+}
 
 /// A name that stands for its value.
 pub(crate) fn accept_used_name(
@@ -26,12 +39,8 @@ pub(crate) fn accept_used_name(
     ensures { Accepts (accept_token lexer.now.text Terminal.UsedName draft.old (Ok token) next) result draft.new }
 {
     count_token(draft, token)?;
-    let Some(declaration) = declared(draft, lexer.slice(&token)) else {
-        return Err(refused(Why::UnknownName, token));
-    };
-    if !declaration.has_value() {
-        return Err(refused(Why::WrongPlace, token));
-    }
+    let declaration = known(draft, lexer, token)?;
+    check(declaration.has_value(), Why::WrongPlace, token)?;
     let id = declaration.id();
     draft.operands.push(Expr::Read(id))?;
     Ok(())
@@ -47,12 +56,8 @@ pub(crate) fn accept_used_resource(
     requires { IsTokenOf lexer.now.text token }
     ensures { Accepts (accept_token lexer.now.text Terminal.UsedResource draft.old (Ok token) next) result draft.new }
 {
-    let Some(declaration) = declared(draft, lexer.slice(&token)) else {
-        return Err(refused(Why::UnknownName, token));
-    };
-    if !declaration.is_resource() {
-        return Err(refused(Why::WrongPlace, token));
-    }
+    let declaration = known(draft, lexer, token)?;
+    check(declaration.is_resource(), Why::WrongPlace, token)?;
     let used = declaration.share()?;
     draft.used = Some(used);
     Ok(())
@@ -68,12 +73,8 @@ pub(crate) fn accept_used_store(
     requires { IsTokenOf lexer.now.text token }
     ensures { Accepts (accept_token lexer.now.text Terminal.UsedStore draft.old (Ok token) next) result draft.new }
 {
-    let Some(declaration) = declared(draft, lexer.slice(&token)) else {
-        return Err(refused(Why::UnknownName, token));
-    };
-    if !declaration.is_store() {
-        return Err(refused(Why::WrongPlace, token));
-    }
+    let declaration = known(draft, lexer, token)?;
+    check(declaration.is_store(), Why::WrongPlace, token)?;
     let used = declaration.share()?;
     draft.used = Some(used);
     Ok(())

@@ -8,6 +8,6 @@ mod places;
 mod texts;
 
 pub use names::{goes_on, is_key, is_part};
-pub use numbers::{negated, negated_code, negated_next, number, number_code, value_up_to};
-pub use places::{place_of, refused};
+pub use numbers::{negated, negated_next, number, value, value_up_to};
+pub use places::{check, place_of, refused};
 pub use texts::{add_content, add_found, add_text, content, is_full};

@@ -1,6 +1,6 @@
 //! Places of tokens.
 
-ghost use Rattle.std.specs.Prelude.{◌≡◌};
+ghost use Rattle.std.specs.Prelude.{◌≡◌, true, false, OnOk, IfErr};
 ghost use Rattle.component_meaning.specs.Names as spec;
 
 use component_items::{Place, Refusal, Why};
@@ -21,4 +21,15 @@ pub fn refused(why: Why, token: Token) -> Refusal
     ensures { result ≡ Refusal.Bad why (spec.place_of token) }
 {
     Refusal::Bad(why, place_of(token))
+}
+
+/// Refuses the token for this reason where what has to hold of it does not.
+pub fn check(holds: bool, why: Why, token: Token) -> Result<(), Refusal>
+    ensures ok { OnOk result (holds ≡ true) }
+    ensures refused { IfErr result (λ e. (holds ≡ false) × (e ≡ Refusal.Bad why (spec.place_of token))) }
+{
+    if holds {
+        return Ok(());
+    }
+    Err(refused(why, token))
 }

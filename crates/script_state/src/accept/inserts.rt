@@ -11,8 +11,7 @@ use crate::state::ScriptState;
 use component_items::{Refusal, Why};
 use text_grammar::script::Terminal;
 use text_lexer::{BadToken, Lexer, Token};
-use token_parts::{refused, value_up_to};
-use values::limits::GREATEST_NUMBER;
+use token_parts::{refused, value};
 
 /// Whether the flag at a place is set.
 fn is_set(flags: &[bool], place: usize) -> bool
@@ -63,10 +62,7 @@ impl<'a> ScriptState<'a> {
         requires number { is_number (kind_of lexer.now.text (Ok token)).kind ≡ true }
         ensures { Accepts (accept_token lexer.now.text Terminal.PlaceNumber self.old (Ok token) next) result self.new }
     {
-        let Some(value) = value_up_to(lexer, token, GREATEST_NUMBER) else {
-            return Err(refused(Why::NumberRange, token));
-        };
-        self.place = value;
+        self.place = value(lexer, token)?;
         Ok(())
     }
 }

@@ -9,11 +9,11 @@ ghost use Rattle.token_reader.specs.Rules.{Accepts};
 ghost use Rattle.script_meaning.specs.Meaning.{accept_token};
 
 use crate::state::ScriptState;
-use component_items::{Refusal, Why};
+use component_items::Refusal;
 use std::alloc::Global;
 use text_grammar::script::Terminal;
 use text_lexer::{BadToken, Lexer, Token};
-use token_parts::{negated, number, refused};
+use token_parts::{negated, number};
 use values::Code;
 
 impl<'a> ScriptState<'a> {
@@ -45,10 +45,7 @@ impl<'a> ScriptState<'a> {
         requires number { is_number (kind_of lexer.now.text (Ok token)).kind ≡ true }
         ensures { Accepts (accept_token lexer.now.text Terminal.NumberKey self.old (Ok token) next) result self.new }
     {
-        let Some(code) = number(lexer, token) else {
-            return Err(refused(Why::NumberRange, token));
-        };
-        self.key = Some(code);
+        self.key = Some(number(lexer, token)?);
         Ok(())
     }
 
@@ -63,10 +60,7 @@ impl<'a> ScriptState<'a> {
         requires number { is_number (kind_of lexer.now.text (Ok token)).kind ≡ true }
         ensures { Accepts (accept_token lexer.now.text Terminal.NegatedKey self.old (Ok token) next) result self.new }
     {
-        let Some(code) = negated(lexer, token) else {
-            return Err(refused(Why::NumberRange, token));
-        };
-        self.key = Some(code);
+        self.key = Some(negated(lexer, token)?);
         Ok(())
     }
 }
