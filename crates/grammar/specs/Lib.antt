@@ -11,3 +11,4 @@ pub mod Running
 pub mod Keeping
 pub mod Ahead
 pub mod Paid
+pub mod Leading

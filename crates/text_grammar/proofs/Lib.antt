@@ -4,3 +4,4 @@ pub mod Closed
 pub mod Ends
 pub mod Runs
 pub mod ScriptRight
+pub mod Operands

@@ -3,6 +3,7 @@ pub mod Class
 pub mod Component
 pub mod Closed
 pub mod ComponentAhead
+pub mod Operands
 pub mod Script
 pub mod ScriptAhead
 pub mod Worked

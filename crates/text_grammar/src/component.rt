@@ -4,6 +4,7 @@
 ghost use Rattle.std.specs.Prelude.{◌≡◌};
 ghost use Rattle.text_grammar.specs.Component as spec;
 
+pub use crate::component_expansions::expansion;
 pub use crate::component_productions::{Production, production};
 use crate::kind::{Class, Kind, Seen};
 use text_lexer::{Mark, Reserved};

@@ -3,6 +3,7 @@
 #![tactic(auto)]
 
 pub mod component;
+mod component_expansions;
 mod component_productions;
 mod kind;
 mod laws;

@@ -160,6 +160,35 @@ fn a_minus_makes_a_key_negative(rt: HostRuntime) {
 }
 
 #[test]
+fn an_operand_is_found_in_one_step(rt: HostRuntime) {
+    let name = component::expansion(CR::Term, apart(Kind::Name));
+    assert!(rt;
+        matches!(name, [Terminal(C::UsedName), Rule(CR::TermMore)]),
+        "{name:?}"
+    );
+    let number = component::expansion(CR::Atom, apart(Kind::Number));
+    assert!(rt;
+        matches!(number, [Terminal(C::NumberLiteral), Action(_)]),
+        "{number:?}"
+    );
+    let group = component::expansion(CR::Expression, mark(Mark::OpenParen));
+    assert!(rt;
+        matches!(
+            group,
+            [
+                Terminal(C::OpenParen),
+                Rule(CR::Expression),
+                Terminal(C::CloseParen),
+                Rule(CR::TermMore),
+                Rule(CR::SumMore),
+                Rule(CR::TestMore)
+            ]
+        ),
+        "{group:?}"
+    );
+}
+
+#[test]
 fn an_element_that_is_open_at_the_end_has_a_closer(rt: HostRuntime) {
     let unclosed = component::production(CR::ElementEnd, apart(Kind::End));
     assert!(rt; matches!(unclosed, [Terminal(C::Closer)]), "{unclosed:?}");

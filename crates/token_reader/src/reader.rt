@@ -67,7 +67,7 @@ fn settle<
     while let Some(symbol) = stack.pop() {
         match symbol {
             Symbol::Terminal(terminal) => return Ok(Some(terminal)),
-            Symbol::Rule(rule) => stack.push_all(S::production(rule, token))?,
+            Symbol::Rule(rule) => stack.push_all(S::expansion(rule, token))?,
             Symbol::Action(action) => state.perform(alloc, action)?,
         }
     }

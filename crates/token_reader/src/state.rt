@@ -2,6 +2,7 @@
 
 ghost use Rattle.std.specs.Prelude.{◌≡◌, ◌<◌, ◌^◌, ℕ, List, IfOk, OnOk, Some, Ok, true};
 ghost use Rattle.grammar.specs.Table.{production_at};
+ghost use Rattle.grammar.specs.Leading.{Expands};
 ghost use Rattle.text_lexer.specs.Token.{IsTokenOf};
 ghost use Rattle.text_grammar.specs.Kind.{kind_of};
 ghost use Rattle.token_reader.specs.Rules.{Rules, IsReadable, Accepts};
@@ -24,6 +25,14 @@ pub trait TextState<W, R, D> {
     /// The production of a rule that the next token chooses.
     fn production(rule: R, token: Seen) -> &'static [Symbol<W, R, D>]
         ensures { production_at (rules.table.productions rule) (rules.lookahead.choice rule token) ≡ Some result.now };
+
+    /// The symbols to which the productions lead that the next token chooses for the rule, and for rules that then come
+    /// first: its production, or what stands for that in fewer steps.
+    fn expansion(rule: R, token: Seen) -> &'static [Symbol<W, R, D>]
+        ensures { Expands rules.table rules.lookahead token rule result.now }
+    {
+        Self::production(rule, token)
+    }
 
     /// Whether the token may stand for the terminal.
     fn matches(terminal: W, token: Seen) -> bool

@@ -1,7 +1,8 @@
 use Rattle.std.proofs.Common.{◌<◌, ◌∷◌, ◌++◌, sym, ◌∙◌, ap, subst}
-use Rattle.token_reader.specs.Reading.{Settles, here, rule, action}
+use Rattle.token_reader.specs.Reading.{Settles, here, action}
 use Rattle.token_reader.specs.Effort.{effort}
-use Rattle.token_reader.proofs.Effort.{less_rule, less_action}
+use Rattle.token_reader.proofs.Effort.{less_action}
+use Rattle.token_reader.proofs.Leading.{settles_rule, less_expansion}
 use Rattle.token_reader.proofs.reader.settle.Goals as goal
 
 pub loop-symbol-init : goal.loop-symbol-init
@@ -13,7 +14,8 @@ loop-symbol-preserved-in-Continue-1 g c =
     let popped = c.in-Some.ensures ∙ ap (λ top. top ∷ c.pop.new.self) c.in-Rule.is in
     λ bytes.
     subst (λ l. Settles rules bytes c.args.token c.args.stack.now c.args.state.now l c.loop-symbol.state) (sym c.in_ok-push_all-in-Rule.ensures)
-    (rule (subst (λ l. Settles rules bytes c.args.token c.args.stack.now c.args.state.now l c.loop-symbol.state) popped (c.loop-symbol.invariant bytes)) c.production.ensures)
+    (settles_rule rules c.args.token bytes c.args.stack.now c.args.state.now c.in-Rule.rule c.expansion.result.now c.pop.new.self c.loop-symbol.state c.expansion.ensures
+    (subst (λ l. Settles rules bytes c.args.token c.args.stack.now c.args.state.now l c.loop-symbol.state) popped (c.loop-symbol.invariant bytes)))
 
 pub loop-symbol-preserved : goal.loop-symbol-preserved
 loop-symbol-preserved g c =
@@ -27,9 +29,9 @@ pub loop-symbol-smaller-in-Continue-1 : goal.loop-symbol-smaller-in-Continue-1
 loop-symbol-smaller-in-Continue-1 g c =
     let rules = g.S.TextState.rules in
     let popped = c.in-Some.ensures ∙ ap (λ top. top ∷ c.pop.new.self) c.in-Rule.is in
-    let less = less_rule rules g.met.S.TextState.readable c.in-Rule.rule (rules.lookahead.choice c.in-Rule.rule c.args.token) c.production.result.now c.pop.new.self c.production.ensures in
+    let less = less_expansion rules c.args.token g.met.S.TextState.readable c.in-Rule.rule c.expansion.result.now c.pop.new.self c.expansion.ensures in
     subst (λ l. effort rules l < effort rules c.loop-symbol.stack) (sym c.in_ok-push_all-in-Rule.ensures)
-    (subst (λ l. effort rules (c.production.result.now ++ c.pop.new.self) < effort rules l) (sym popped) less)
+    (subst (λ l. effort rules (c.expansion.result.now ++ c.pop.new.self) < effort rules l) (sym popped) less)
 
 pub loop-symbol-smaller : goal.loop-symbol-smaller
 loop-symbol-smaller g c =
