@@ -1,0 +1,4 @@
+pub mod Lists
+pub mod ReadersLemmas
+pub mod BuildingLemmas
+pub mod MarkingLemmas
