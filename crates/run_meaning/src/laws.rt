@@ -1,5 +1,5 @@
 //! Laws of the definitions. Each is the contract of a function that does nothing.
-ghost use Rattle.std.specs.Prelude.{◌≡◌, ◌⊎◌, ◌≤◌, ℕ, ◌∷◌, ◌++◌, Some, None, Option as OptionOf, List, length, sum_by};
+ghost use Rattle.std.specs.Prelude.{◌≡◌, ◌⊎◌, ◌↔◌, ◌≤◌, ℕ, ◌∷◌, ◌++◌, Some, None, Option as OptionOf, List, length, sum_by};
 ghost use Rattle.values.specs.declared.code.Code.{Code as CodeValue};
 ghost use Rattle.values.specs.declared.plan.Noted.{Noted as NotedValue};
 ghost use Rattle.values.specs.declared.plan.Pumped.{Pumped as PumpedValue};
@@ -8,15 +8,17 @@ ghost use Rattle.script_items.specs.declared.operation.ScriptOp.{ScriptOp as OpV
 ghost use Rattle.run_items.specs.declared.answer.Answer.{Answer as AnswerValue};
 ghost use Rattle.run_items.specs.declared.answer.Reply.TheVariants as reply;
 ghost use Rattle.run_items.specs.Journal.{JournalPhase};
+ghost use Rattle.component_items.specs.Kept.{IsKept};
 ghost use Rattle.plain_evaluation.specs.Held.{Held};
+ghost use Rattle.plain_evaluation.specs.Killed.{going_with};
 ghost use Rattle.run_meaning.specs.Causes.{Caused, IsSpent, PumpedBy};
 ghost use Rattle.run_meaning.specs.Explained.{Explained};
 ghost use Rattle.run_meaning.specs.Lane.{Done, numbers};
 ghost use Rattle.run_meaning.specs.Merge.{NotedOnce};
-ghost use Rattle.run_meaning.specs.Opened.{Opened};
+ghost use Rattle.run_meaning.specs.Opened.{Opened, area_of, opened_of};
 ghost use Rattle.run_meaning.specs.Phase.{Phase, IsJournal};
 ghost use Rattle.run_meaning.specs.Run.{IsPhase, IsRun, Settled, phases_of};
-ghost use Rattle.run_meaning.specs.Words.{times};
+ghost use Rattle.run_meaning.specs.Words.{In, times};
 ghost use Rattle.run_items.specs.declared.limits.TheConstants.{LAST_NUMBER};
 
 /// In a phase of one lane nothing is busy, nothing is marked meanwhile, and no effect is left, unless all numbers
@@ -40,4 +42,9 @@ pub fn numbers_are_told_once()
 /// What explains a value within bounds explains it within wider ones.
 pub fn wider_bounds_explain()
     ensures { (o : Opened) (es : List NotedValue) (low wider : ℕ → ℕ) (high : OptionOf ℕ) (n : ℕ) (v : CodeValue) → ((row : ℕ) → wider row ≤ low row) → Explained o es low high n v → Explained o es wider None n v }
+{}
+
+/// The owners of an area, by the parents that the plan gives them, are those that a disposal takes by the text.
+pub fn areas_are_what_disposals_take()
+    ensures { (component : ComponentValue) (held : Held) (area n : ℕ) → IsKept component → In n (area_of (opened_of component held) area) ↔ In n (going_with component area).owners }
 {}
