@@ -21,12 +21,12 @@ is_row (at_row n) = 1
 is_row at_none = 0
 is_row (at_dead n) = 2
 
-abbrev row_or : Target → ℕ
+abbrev pub row_or : Target → ℕ
 row_or (at_row n) = n
 row_or at_none = 0
 row_or (at_dead n) = 0
 
-row_at : (r : Option ℕ) (row : ℕ) → target_at r ≡ at_row row → r ≡ Some row
+pub row_at : (r : Option ℕ) (row : ℕ) → target_at r ≡ at_row row → r ≡ Some row
 row_at None row e = let one : ℕ = 1 in let q : 0 ≡ one = ap is_row e in absurd (omega arith)
 row_at (Some n) row e = ap (λ (t : Target). Some (row_or t)) e
 

@@ -3,6 +3,7 @@ use Rattle.std.proofs.Common.{◌≡◌, ◌⊎◌, ℕ, zero, suc, ◌<◌, ◌
 use Rattle.std.specs.Prelude.{nat_eq, nat_le}
 use Rattle.std.proofs.lemmas.Bool.{true≢false}
 use Rattle.std.proofs.lemmas.Bool.Decides.{nat_tests}
+use Rattle.values.specs.declared.plan.Noted.{Noted}
 use Rattle.run_meaning.specs.Words.{In}
 use Rattle.run_meaning.specs.Opened.{Opened}
 use Rattle.run_meaning.specs.Lane.{Done}
@@ -73,6 +74,23 @@ next_of o lane ended call calls e = let n : 0 ≡ length (call ∷ calls) = ap l
 next_of o lane (rests d q s) call calls e = let n = next_of o _ s call calls e in record { front = d ∷ n.front; op = n.op; back = n.back; whole = ap (λ (t : List Done). d ∷ t) n.whole; quiets = rests d q n.quiets; fits = n.fits; more = n.more }
 next_of o lane (speaks {lane = rest} made d q s) call calls e = record { front = []; op = d; back = rest; whole = refl; quiets = ended; fits = subst (λ (x : Call). Speaks o x d.op d.reply) (ap (head_or call) e) q; more = subst (λ (t : List Call). LaneSpeaks o t rest) (ap tail_of e) s }
 
+-- what each pass did, where one pass had these first
+by_each : (lanes : ℕ → List Done) (p : ℕ) (front : List Done) (op : Done) (back : List Done) (block : List Noted) (h : List Made) → lanes p ≡ front ++ op ∷ back → ((q : ℕ) → done_by q h ≡ cond (nat_eq q p) back (lanes q))
+    → (q : ℕ) → done_by q (rest_by p front ++ record { pass = p; done = op; block = block } ∷ h) ≡ lanes q
+by_each lanes p front op back block h whole others q = done_append q (rest_by p front) (record { pass = p; done = op; block = block } ∷ h) ∙ each
+  where
+    mine : done_by p h ≡ back
+    mine = others p ∙ ap (λ (b : Bool). cond b back (lanes p)) (is_yes p p refl)
+
+    here : done_by p (rest_by p front) ++ op ∷ done_by p h ≡ lanes p
+    here = (λ i. by_rest p front i ++ op ∷ mine i) ∙ sym whole
+
+    each : done_by q (rest_by p front) ++ cond (nat_eq q p) (op ∷ done_by q h) (done_by q h) ≡ lanes q
+    each = elim (nat_eq q p) as (λ b. (nat_eq q p ≡ b) → done_by q (rest_by p front) ++ cond b (op ∷ done_by q h) (done_by q h) ≡ lanes q) [
+      | true ↦ λ e. let same : q ≡ p = grind (arith, nat_tests) in subst (λ (x : ℕ). done_by x (rest_by p front) ++ op ∷ done_by x h ≡ lanes x) (sym same) here
+      | false ↦ λ e. let ne : q ≡ p → ⊥ = λ s. true≢false (sym (is_yes q p s) ∙ e) in (λ i. by_other q p front ne i ++ (others q ∙ ap (λ (b : Bool). cond b back (lanes q)) e) i)
+    ] refl
+
 -- ---- each step is made
 
 module _ (past : List Phase) (o : Opened)
@@ -115,12 +133,7 @@ module _ (past : List Phase) (o : Opened)
       let made : Made = record { pass = p; done = n.op; block = lead.1.0 } in (
         rest_by p n.front ++ made ∷ r.0,
         rests_first p n.front g (made ∷ r.0) k n.quiets (lead.0, goes g m lead.0 n.op lead.1 n.fits, r.1),
-        λ q. done_append q (rest_by p n.front) (made ∷ r.0) ∙ (elim (nat_eq q p) as (λ b. (nat_eq q p ≡ b) → done_by q (rest_by p n.front) ++ cond b (n.op ∷ done_by q r.0) (done_by q r.0) ≡ lanes q) [
-          | true ↦ λ e. let same : q ≡ p = grind (arith, nat_tests) in
-              subst (λ (x : ℕ). done_by x (rest_by p n.front) ++ n.op ∷ done_by x r.0 ≡ lanes x) (sym same)
-              ((λ i. by_rest p n.front i ++ n.op ∷ (r.2 p ∙ ap (λ (b : Bool). cond b n.back (lanes p)) (is_yes p p refl)) i) ∙ sym n.whole)
-          | false ↦ λ e. let ne : q ≡ p → ⊥ = λ s. true≢false (sym (is_yes q p s) ∙ e) in (λ i. by_other q p n.front ne i ++ (r.2 q ∙ ap (λ (b : Bool). cond b n.back (lanes q)) e) i)
-        ] refl),
+        by_each lanes p n.front n.op n.back lead.1.0 r.0 n.whole r.2,
       )
     where
       back_nil : (xs : List Done) (y : Done) (ys : List Done) → xs ++ y ∷ ys ≡ [] → ys ≡ []

@@ -1,14 +1,18 @@
 -- What holds of the phase whose calls were made one after another.
-use Rattle.std.proofs.Common.{◌≡◌, ℕ, zero, suc, ◌+◌, ◌<◌, ◌≤◌, List, [], ◌∷◌, ◌++◌, length, sym, refl, ap, ◌∙◌, subst, arith, Option, None}
-use Rattle.std.specs.Prelude.{max, map, replicate, unwrap_or, slice_get}
-use Rattle.std.specs.List.{range_with_len}
+use Rattle.std.proofs.Common.{◌≡◌, ◌⊎◌, ℕ, zero, suc, ◌+◌, ◌<◌, ◌≤◌, Bool, true, false, cond, List, [], ◌∷◌, ◌++◌, length, sym, refl, ap, ◌∙◌, subst, inl, inr, ⊎_elim, arith, Option, None}
+use Rattle.std.specs.Prelude.{max, map, replicate, unwrap_or, slice_get, nat_le}
+use Rattle.std.specs.List.{range_with_len, AllByRecursion}
+use Rattle.std.proofs.lemmas.Bool.Decides.{nat_tests}
 use Rattle.run_meaning.specs.Opened.{Opened}
 use Rattle.run_meaning.specs.Lane.{Done}
 use Rattle.run_meaning.specs.Phase.{Phase}
 use Rattle.run_history.specs.Going.{start_of, Going, just_opened}
-use Rattle.run_history.specs.Calls.{Call, MadeCall, CallsLead}
-use Rattle.run_history.specs.History.{Made, Follows, done_by, lanes_of, ByPasses, PastFits, OfHistories}
+use Rattle.run_history.specs.Calls.{Call, MadeCall, CallsLead, calls_by}
+use Rattle.run_history.specs.History.{Made, Follows, done_by, lanes_of, ByPasses, PastFits, VerdictsFit, OfHistories}
 use Rattle.run_weave.specs.Lanes.{IsQuietly, Speaks, LaneSpeaks, ended, rests, speaks, lane_of, LanesSpeak, TargetsFit, phase_with}
+use Rattle.run_history.proofs.Cut.{is_no}
+use Rattle.run_meaning.specs.Run.{IsPhase}
+use Rattle.run_history.proofs.Whole.{is_phase}
 use Rattle.run_weave.proofs.Weave.{weaves, by_lanes}
 use Rattle.run_weave.proofs.Link.{goes, stays}
 
@@ -73,3 +77,21 @@ pub speaks_last : (o : Opened) {calls : List Call} (lane : List Done) (call : Ca
 speaks_last o lane call d ended q = speaks call d q ended
 speaks_last o lane call d (rests {lane = more} x r s) q = rests x r (speaks_last o more call d s q)
 speaks_last o lane call d (speaks {lane = more} made x r s) q = speaks made x r (speaks_last o more call d s q)
+
+-- ---- lanes that speak, one by one
+
+none_by : (count p : ℕ) (calls : List MadeCall) → AllByRecursion (λ m. (0 < m.pass) × (m.pass ≤ count)) calls → (p ≡ 0) ⊎ (count < p) → calls_by p calls ≡ []
+none_by count p [] all away = refl
+none_by count p (m ∷ calls) all away = ap (λ (b : Bool). cond b (m.call ∷ calls_by p calls) (calls_by p calls)) (is_no p m.pass (λ e. let low = all.0.0 in let most = all.0.1 in ⊎_elim (λ (z : p ≡ 0). absurd (omega arith)) (λ (l : count < p). absurd (omega arith)) away)) ∙ none_by count p calls all.1 away
+
+pub lanes_speak : (o : Opened) (calls : List MadeCall) (lanes : List (List Done)) → AllByRecursion (λ m. (0 < m.pass) × (m.pass ≤ length lanes)) calls → ((i : ℕ) → i < length lanes → LaneSpeaks o (calls_by (suc i) calls) (lane_of lanes (suc i))) → LanesSpeak o calls lanes
+lanes_speak o calls lanes all each zero = subst (λ (t : List Call). LaneSpeaks o t []) (sym (none_by (length lanes) 0 calls all (inl refl))) ended
+lanes_speak o calls lanes all each (suc i) = elim (nat_le (suc i) (length lanes)) as (λ b. (nat_le (suc i) (length lanes) ≡ b) → LaneSpeaks o (calls_by (suc i) calls) (lane_of lanes (suc i))) [
+  | true ↦ λ q. each i (let l : suc i ≤ length lanes = grind (arith, nat_tests) in omega arith)
+  | false ↦ λ q. let l : length lanes < suc i = grind (arith, nat_tests) in subst (λ (p : List Call × List Done). LaneSpeaks o p.0 p.1) (λ j. (sym (none_by (length lanes) (suc i) calls all (inr l)) j, sym (none_past lanes (suc i) l) j)) ended
+] refl
+
+-- ---- a phase of which all holds
+
+pub calls_make_phase : (past : List Phase) (o : Opened) (base : ℕ) (calls : List MadeCall) (k : Going) (lanes : List (List Done)) → CallsLead (start_of past o) just_opened calls k → LanesSpeak o calls lanes → PastFits past o → TargetsFit o → VerdictsFit (phase_with o base lanes k) → IsPhase past (phase_with o base lanes k)
+calls_make_phase past o base calls k lanes lead speak p fits = of_calls (λ past p. VerdictsFit p → IsPhase past p) (λ past o base count h k f by fits v. is_phase past o base count h k f by fits v) past o base calls k lanes lead speak p fits

@@ -1,6 +1,7 @@
 //! What follows where the calls of a phase were made one after another. Each law is the contract of a function that does
 //! nothing.
-ghost use Rattle.std.specs.Prelude.{◌≡◌, ◌≤◌, ◌∷◌, ◌++◌, [], ℕ, List, length};
+ghost use Rattle.std.specs.Prelude.{◌≡◌, ◌≤◌, ◌<◌, suc, ◌∷◌, ◌++◌, [], ℕ, List, length};
+ghost use Rattle.std.specs.List.{AllByRecursion};
 ghost use Rattle.component_items.specs.declared.component.Component.{Component as ComponentValue};
 ghost use Rattle.component_items.specs.Kept.{IsKept};
 ghost use Rattle.plain_evaluation.specs.Fits.{RowsFit};
@@ -12,9 +13,9 @@ ghost use Rattle.run_meaning.specs.Phase.{Phase};
 ghost use Rattle.run_meaning.specs.Causes.{HasRoom};
 ghost use Rattle.run_meaning.specs.Run.{IsPhase};
 ghost use Rattle.run_history.specs.Going.{start_of, Going, just_opened};
-ghost use Rattle.run_history.specs.Calls.{Call, MadeCall, CallsLead};
+ghost use Rattle.run_history.specs.Calls.{Call, MadeCall, CallsLead, calls_by};
 ghost use Rattle.run_history.specs.History.{Made, Follows, ByPasses, lanes_of, VerdictsFit};
-ghost use Rattle.run_weave.specs.Lanes.{IsQuietly, Speaks, LaneSpeaks, LanesSpeak, TargetsFit, OfCalls};
+ghost use Rattle.run_weave.specs.Lanes.{IsQuietly, Speaks, LaneSpeaks, LanesSpeak, lane_of, TargetsFit, OfCalls};
 
 /// Where the lanes make the calls, there is one history of all operations, in which each lane has just its own, in its
 /// order, and which leads where the calls do.
@@ -32,6 +33,12 @@ pub fn calls_make_phases()
 /// Nothing is full where the operations may draw no more numbers than are noted.
 pub fn calls_have_room()
     ensures { OfCalls (λ past p. HasRoom p) }
+{}
+
+/// The lanes make the calls where each lane makes those of its pass, and no other pass has any.
+pub fn lanes_make_all_calls()
+    ensures { (o : Opened) (calls : List MadeCall) (lanes : List (List Done)) → AllByRecursion (λ m. (0 < m.pass) × (m.pass ≤ length lanes)) calls
+        → ((i : ℕ) → i < length lanes → LaneSpeaks o (calls_by (suc i) calls) (lane_of lanes (suc i))) → LanesSpeak o calls lanes }
 {}
 
 /// A lane that makes calls goes on with an operation that makes none, or with one more call.
