@@ -1,8 +1,8 @@
 -- Where productions lead that a token chooses.
-use Rattle.std.proofs.Common.{◌≡◌, List, ◌∷◌, ◌++◌, Some, sym, subst, append_assoc}
+use Rattle.std.proofs.Common.{List, ◌∷◌, ◌++◌, subst, append_assoc}
 use Rattle.grammar.specs.declared.symbol.Symbol.{Symbol}
 use Rattle.grammar.specs.declared.symbol.Symbol.TheVariants.{Rule}
-use Rattle.grammar.specs.Table.{Table, production_at}
+use Rattle.grammar.specs.Table.{Table}
 use Rattle.grammar.specs.Lookahead.{Lookahead}
 use Rattle.grammar.specs.Leading.{Leads, stays, goes, Expands}
 

@@ -1,5 +1,5 @@
 -- What an operand of an expression is, by its first token.
-use Rattle.std.specs.Prelude.{List, [], ◌∷◌}
+use Rattle.std.specs.Prelude.{[], ◌∷◌}
 use Rattle.grammar.specs.declared.symbol.Symbol.TheVariants as s
 use Rattle.text_lexer.specs.declared.token.Mark.TheVariants as mark
 use Rattle.text_lexer.specs.declared.token.Reserved.TheVariants as word
