@@ -32,16 +32,16 @@ around_from-append : (known : List (List ℕ)) (xs ys : List PlanOwner) → arou
 around_from-append known [] ys = refl
 around_from-append known (x ∷ xs) ys = around_from-append (known ++ around_of known (length known) x.parent ∷ []) xs ys
 
-at_front : (xs ys : List (List ℕ)) (k : ℕ) → k < length xs → slice_get (xs ++ ys) k ≡ slice_get xs k
+pub at_front : (xs ys : List (List ℕ)) (k : ℕ) → k < length xs → slice_get (xs ++ ys) k ≡ slice_get xs k
 at_front [] ys k l = absurd (omega arith)
 at_front (x ∷ xs) ys zero l = refl
 at_front (x ∷ xs) ys (suc k) l = at_front xs ys k (omega arith)
 
-at_end : (xs : List (List ℕ)) (x : List ℕ) → slice_get (xs ++ x ∷ []) (length xs) ≡ Some x
+pub at_end : (xs : List (List ℕ)) (x : List ℕ) → slice_get (xs ++ x ∷ []) (length xs) ≡ Some x
 at_end [] x = refl
 at_end (y ∷ xs) x = at_end xs x
 
-within : (xs : List (List ℕ)) (k : ℕ) (x : List ℕ) → slice_get xs k ≡ Some x → k < length xs
+pub within : (xs : List (List ℕ)) (k : ℕ) (x : List ℕ) → slice_get xs k ≡ Some x → k < length xs
 within [] k x e = cc
 within (y ∷ xs) zero x e = omega arith
 within (y ∷ xs) (suc k) x e = let l = within xs k x e in omega arith
@@ -110,7 +110,7 @@ grows_both n xs ys first second f g no_f no_g one two known parent around number
     itself m true is h = let i = a.itself m is in (i.0, b.same m (below m is) ∙ i.1)
     itself m false is h = b.itself m (either xs ys m false is h refl)
 
-itself_equal : (n : ℕ) → (n == n) ≡ true
+pub itself_equal : (n : ℕ) → (n == n) ≡ true
 itself_equal n = grind arith
 
 equal_sym : (a b : ℕ) → (a == b) ≡ (b == a)
@@ -122,7 +122,7 @@ or_comm true false = refl
 or_comm false true = refl
 or_comm false false = refl
 
-or_left : (a b : Bool) → a ≡ true → (a || b) ≡ true
+pub or_left : (a b : Bool) → a ≡ true → (a || b) ≡ true
 or_left true b h = refl
 or_left false b h = cc
 
@@ -319,7 +319,7 @@ filter_in p (x ∷ xs) n i h = at (p x) refl (λ j. filter_in p xs n j h)
     at true is later = ⊎_elim (λ (e : x ≡ n). inl e) (λ j. inr (later j)) i
     at false is later = ⊎_elim (λ (e : x ≡ n). absurd (true≢false (sym h ∙ (ap p (sym e) ∙ is)))) later i
 
-around_long : (known : List (List ℕ)) (os : List PlanOwner) → length (around_from known os) ≡ length known + length os
+pub around_long : (known : List (List ℕ)) (os : List PlanOwner) → length (around_from known os) ≡ length known + length os
 around_long known [] = omega arith
 around_long known (o ∷ os) = let e = around_long (known ++ around_of known (length known) o.parent ∷ []) os in omega (arith, length-append known (around_of known (length known) o.parent ∷ []))
 

@@ -1,7 +1,7 @@
 -- Bounds, numbers and lanes.
 use Rattle.std.proofs.Common.{◌≡◌, ◌≢◌, ◌⊎◌, ℕ, zero, suc, ◌+◌, ◌<◌, ◌≤◌, ◌==◌, Bool, true, false, if◌then◌else◌, Option, Some, None, List, [], ◌∷◌, length, inl, inr, eqb, refl, sym, ap, subst, ⊎_elim, arith}
 use Rattle.std.specs.Prelude.{slice_get}
-use Rattle.std.specs.List.{cons_option}
+use Rattle.std.specs.List.{cons_option, range_with_len}
 use Rattle.std.proofs.lemmas.Bool.Decides.{eqb_tells}
 use Rattle.std.proofs.lemmas.List.Sums.{sum_by-cons}
 use Rattle.std.proofs.lemmas.Option.{none-some}
@@ -63,9 +63,19 @@ as_many (suc count) low (m ∷ ns) g each =
     let rest : count ≤ length ns = as_many count m ns g.1 (λ n a b. ⊎_elim (λ (e : m ≡ n). absurd (omega arith)) (λ j. j) (each n (omega arith) (omega arith))) in
     omega arith
 
+-- ---- numbers one after another
+
+pub number_in : (low len n : ℕ) → low ≤ n → n < low + len → In n (range_with_len low len)
+number_in low zero n l u = absurd (omega arith)
+number_in low (suc len) n l u = ⊎_elim (λ (t : (eqb low n ≡ true) × (low ≡ n)). inl t.1) (λ (f : (eqb low n ≡ false) × (low ≢ n)). inr (number_in (low + 1) len n (omega (arith, f.1)) (omega arith))) (eqb_tells low n)
+
+pub in_range : (low len n : ℕ) → In n (range_with_len low len) → n < low + len
+in_range low zero n i = absurd i
+in_range low (suc len) n i = ⊎_elim (λ (e : low ≡ n). omega arith) (λ j. let l = in_range (low + 1) len n j in omega arith) i
+
 -- ---- numbers that stand once
 
-abbrev one_if : Bool → ℕ
+abbrev pub one_if : Bool → ℕ
 one_if b = if b then 1 else 0
 
 times-cons : (n m : ℕ) (ns : List ℕ) → times n (m ∷ ns) ≡ one_if (n == m) + times n ns

@@ -1,2 +1,4 @@
 pub mod Areas
+pub mod Around
 pub mod Bounds
+pub mod Dead

@@ -5,19 +5,17 @@ ghost use Rattle.values.specs.declared.plan.Noted.{Noted as NotedValue};
 ghost use Rattle.values.specs.declared.plan.Pumped.{Pumped as PumpedValue};
 ghost use Rattle.component_items.specs.declared.component.Component.{Component as ComponentValue};
 ghost use Rattle.script_items.specs.declared.operation.ScriptOp.{ScriptOp as OpValue};
-ghost use Rattle.run_items.specs.declared.answer.Answer.{Answer as AnswerValue};
 ghost use Rattle.run_items.specs.declared.answer.Reply.TheVariants as reply;
-ghost use Rattle.run_items.specs.Journal.{JournalPhase};
 ghost use Rattle.component_items.specs.Kept.{IsKept};
-ghost use Rattle.plain_evaluation.specs.Held.{Held};
+ghost use Rattle.plain_evaluation.specs.Held.{Held, first_held};
 ghost use Rattle.plain_evaluation.specs.Killed.{going_with};
 ghost use Rattle.run_meaning.specs.Causes.{Caused, IsSpent, PumpedBy};
 ghost use Rattle.run_meaning.specs.Explained.{Explained};
 ghost use Rattle.run_meaning.specs.Lane.{Done, numbers};
 ghost use Rattle.run_meaning.specs.Merge.{NotedOnce};
-ghost use Rattle.run_meaning.specs.Opened.{Opened, area_of, opened_of};
-ghost use Rattle.run_meaning.specs.Phase.{Phase, IsJournal};
-ghost use Rattle.run_meaning.specs.Run.{IsPhase, IsRun, Settled, phases_of};
+ghost use Rattle.run_meaning.specs.Opened.{Opened, area_of, dead_owners, opened_of};
+ghost use Rattle.run_meaning.specs.Phase.{Phase, IsJournal, disposed_before};
+ghost use Rattle.run_meaning.specs.Run.{Runs, Settled, phases_of, held_arrived};
 ghost use Rattle.run_meaning.specs.Words.{In, times};
 ghost use Rattle.run_items.specs.declared.limits.TheConstants.{LAST_NUMBER};
 
@@ -47,4 +45,10 @@ pub fn wider_bounds_explain()
 /// The owners of an area, by the parents that the plan gives them, are those that a disposal takes by the text.
 pub fn areas_are_what_disposals_take()
     ensures { (component : ComponentValue) (held : Held) (area n : ℕ) → IsKept component → In n (area_of (opened_of component held) area) ↔ In n (going_with component area).owners }
+{}
+
+/// Behind each phase of a run the owners that are dead are those that were disposed so far, each once.
+pub fn the_dead_were_disposed()
+    ensures was { (component : ComponentValue) (keys : ℕ → OptionOf CodeValue) (steps : List Settled) (last : Held) (n : ℕ) → IsKept component → Runs component (held_arrived keys (first_held component)) steps last → In n (dead_owners last) ↔ In n (disposed_before (phases_of steps)) }
+    ensures once { (component : ComponentValue) (keys : ℕ → OptionOf CodeValue) (steps : List Settled) (last : Held) (n : ℕ) → IsKept component → Runs component (held_arrived keys (first_held component)) steps last → times n (disposed_before (phases_of steps)) ≤ 1 }
 {}

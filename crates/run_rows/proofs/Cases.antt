@@ -1,8 +1,7 @@
 -- What holds of each of a few things that are listed holds wherever it is asked.
-use Rattle.std.proofs.Common.{◌≡◌, ◌≢◌, eqb, ℕ, zero, suc, ◌+◌, ◌<◌, ◌≤◌, ◌==◌, Bool, true, false, if◌then◌else◌, Option, Some, List, [], ◌∷◌, inl, inr, refl, sym, ap, ◌∙◌, subst, ⊎_elim, arith}
-use Rattle.std.specs.List.{AllByRecursion, range_with_len}
+use Rattle.std.proofs.Common.{◌≡◌, ℕ, zero, suc, ◌+◌, ◌≤◌, ◌==◌, Bool, true, false, if◌then◌else◌, Option, Some, List, [], ◌∷◌, refl, sym, ap, ◌∙◌, subst, ⊎_elim, arith}
+use Rattle.std.specs.List.{AllByRecursion}
 use Rattle.std.proofs.lemmas.Bool.{eqb-true}
-use Rattle.std.proofs.lemmas.Bool.Decides.{eqb_tells}
 use Rattle.std.proofs.lemmas.Option.{none-some}
 use Rattle.values.specs.declared.plan.Fact.{Fact}
 use Rattle.values.specs.declared.plan.Kind.{Kind}
@@ -26,11 +25,6 @@ fact_by P false k n f g rest is p q e = q e
 pub fact_in : (P : ℕ → Fact → Type 0) (es : List Noted) → AllByRecursion (λ e. P e.number e.fact) es → (k : ℕ) (f : Fact) → fact_at k es ≡ Some f → P k f
 fact_in P [] a k f e = absurd (none-some _ e)
 fact_in P (x ∷ xs) a k f e = fact_by P (k == x.number) k x.number x.fact f (fact_at k xs) (eqb-true k x.number) a.0 (fact_in P xs a.1 k f) e
-
--- numbers one after another
-pub number_in : (low len n : ℕ) → low ≤ n → n < low + len → In n (range_with_len low len)
-number_in low zero n l u = absurd (omega arith)
-number_in low (suc len) n l u = ⊎_elim (λ (t : (eqb low n ≡ true) × (low ≡ n)). inl t.1) (λ (f : (eqb low n ≡ false) × (low ≢ n)). inr (number_in (low + 1) len n (omega (arith, f.1)) (omega arith))) (eqb_tells low n)
 
 -- the effects of a plan
 abbrev pub OnEffect : Type 0 → Kind → Type 0

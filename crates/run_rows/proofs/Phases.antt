@@ -1,5 +1,5 @@
 -- What is asked of a phase, from what holds of each of its entries.
-use Rattle.std.proofs.Common.{◌≡◌, ℕ, zero, suc, ◌+◌, ◌<◌, ◌≤◌, Some, None, List, [], ◌∷◌, inl, inr, sym, ap, subst, ⊎_elim, arith}
+use Rattle.std.proofs.Common.{◌≡◌, ℕ, zero, suc, ◌+◌, ◌≤◌, Some, None, List, [], ◌∷◌, inl, inr, sym, ap, subst, ⊎_elim, arith}
 use Rattle.std.specs.List.{AllByRecursion, range_with_len}
 use Rattle.values.specs.declared.plan.Fact.{Fact}
 use Rattle.values.specs.declared.plan.Fact.TheVariants as fact
@@ -13,17 +13,14 @@ use Rattle.run_meaning.specs.Entries.{fact_at}
 use Rattle.run_meaning.specs.Explained.{Explained}
 use Rattle.run_meaning.specs.Phase.{Phase, IsOfPlan, IsJournal, entry_numbers}
 use Rattle.run_meaning.specs.Told.{EntriesExplained, IsLive, NoRunAfter}
-use Rattle.run_rows.proofs.Cases.{all_in, fact_in, number_in}
+use Rattle.run_meaning.proofs.Bounds.{number_in, in_range}
+use Rattle.run_rows.proofs.Cases.{all_in, fact_in}
 
 -- ---- journals whose numbers are 1, 2, 3 and so on
 
 grows : (low len : ℕ) → GrowsFrom low (range_with_len (low + 1) len)
 grows low zero = tt
 grows low (suc len) = (omega arith, grows (low + 1) len)
-
-in_range : (low len n : ℕ) → In n (range_with_len low len) → n < low + len
-in_range low zero n i = absurd i
-in_range low (suc len) n i = ⊎_elim (λ (e : low ≡ n). omega arith) (λ j. let l = in_range (low + 1) len n j in omega arith) i
 
 number_of : (es : List Noted) (e : Noted) → In e es → In e.number (entry_numbers es)
 number_of [] e i = absurd i
