@@ -12,3 +12,4 @@ pub mod Causes
 pub mod Counts
 pub mod Room
 pub mod Whole
+pub mod Steps

@@ -147,7 +147,7 @@ pumps_fit past o base count h k f by lawful = record {
 
 -- ---- changes
 
-differ_append : (o : Opened) (before xs ys : List Noted) → AllDiffer o before xs → AllDiffer o (before ++ xs) ys → AllDiffer o before (xs ++ ys)
+pub differ_append : (o : Opened) (before xs ys : List Noted) → AllDiffer o before xs → AllDiffer o (before ++ xs) ys → AllDiffer o before (xs ++ ys)
 differ_append o before [] ys a b = subst (λ (t : List Noted). AllDiffer o t ys) (append_nil before) b
 differ_append o before (x ∷ xs) ys a b = (a.0, differ_append o (before ++ x ∷ []) xs ys a.1 (subst (λ (t : List Noted). AllDiffer o t ys) (sym (append_assoc' before (x ∷ []) xs)) b))
 

@@ -147,6 +147,15 @@ pub record Goes (s : Start) (g : Going) (block : List Noted) (h : Going) : Type 
   pub differ : AllDiffer (opened_at s) g.entries block
   pub fit : (e : Noted) → In e block → EntryFits s g.entries h.entries e.fact
 
+-- it is no write
+abbrev pub writes_nothing : Fact → Bool
+writes_nothing (fact.Write row code) = false
+writes_nothing (fact.Change row code) = true
+writes_nothing (fact.Ran row code) = true
+writes_nothing (fact.Void row) = true
+writes_nothing (fact.Disposed owner) = true
+writes_nothing (fact.Edit pass index) = true
+
 -- how many memos and effects the plan has
 abbrev pub derived_of : Start → ℕ
 derived_of s = count_by (λ node. is_derived node.kind) s.plan.nodes

@@ -1,16 +1,19 @@
 //! What follows of each history of one caller after another. Each law is the contract of a function that does nothing.
-ghost use Rattle.std.specs.Prelude.{◌≡◌, ◌≤◌, ℕ, None, Some, List};
+ghost use Rattle.std.specs.Prelude.{◌≡◌, ◌⊎◌, ◌+◌, ◌<◌, ◌≤◌, ℕ, true, None, Some, List, [], ◌∷◌, ◌++◌};
 ghost use Rattle.values.specs.declared.plan.PlanNode.{PlanNode as NodeValue};
 ghost use Rattle.values.specs.declared.plan.Noted.{Noted as NotedValue};
+ghost use Rattle.values.specs.declared.plan.Fact.{Fact as FactValue};
 ghost use Rattle.values.specs.Plan.{IsLawful};
+ghost use Rattle.run_items.specs.declared.limits.TheConstants.{LAST_NUMBER};
 ghost use Rattle.run_meaning.specs.Opened.{Opened, node_at};
 ghost use Rattle.run_meaning.specs.Explained.{Explained};
-ghost use Rattle.run_meaning.specs.Phase.{Phase, IsJournal};
-ghost use Rattle.run_meaning.specs.Merge.{Answered, NotedInOrder, NotedOnce, DisposedOnce, PumpsFit, ChangesDiffer, IsMerge};
+ghost use Rattle.run_meaning.specs.Phase.{Phase, IsJournal, IsOfPlan};
+ghost use Rattle.run_meaning.specs.Entries.{is_disposal};
+ghost use Rattle.run_meaning.specs.Merge.{Answered, NotedInOrder, NotedOnce, DisposedOnce, PumpsFit, ChangesDiffer, DiffersFrom, IsMerge};
 ghost use Rattle.run_meaning.specs.Told.{GotExplained, EntriesExplained, NoRunAfter};
 ghost use Rattle.run_meaning.specs.Causes.{RepliesCaused, RefusalsCounted, cost_of, HasRoom};
 ghost use Rattle.run_meaning.specs.Run.{IsPhase};
-ghost use Rattle.run_history.specs.Going.{start_of, latest, plain_code};
+ghost use Rattle.run_history.specs.Going.{Start, opened_at, start_of, Going, note, all_are, latest, plain_code, EntryFits, Goes, writes_nothing};
 ghost use Rattle.run_history.specs.History.{OfHistories, VerdictsFit};
 
 /// The journal is well formed.
@@ -94,4 +97,22 @@ pub fn histories_are_merges()
 /// A history makes a phase of which all holds.
 pub fn histories_make_phases()
     ensures { OfHistories (λ past p. VerdictsFit p → IsPhase past p) }
+{}
+
+/// A call that notes nothing, one that notes an entry under the next number, and a number that comes to nothing where
+/// all that are noted were drawn.
+pub fn single_steps_go()
+    ensures nothing { (s : Start) (g : Going) → Goes s g [] g }
+    ensures one { (s : Start) (g : Going) (f : FactValue) → (g.drawn < LAST_NUMBER) ⊎ (is_disposal f ≡ true) → IsOfPlan (opened_at s) f → DiffersFrom (opened_at s) g.entries f → EntryFits s g.entries (g.entries ++ note (g.drawn + 1) f ∷ []) f → Goes s g (note (g.drawn + 1) f ∷ []) (record { drawn = g.drawn + 1; entries = g.entries ++ note (g.drawn + 1) f ∷ [] }) }
+    ensures none { (s : Start) (g : Going) → LAST_NUMBER ≤ g.drawn → Goes s g [] (record g { drawn = g.drawn + 1 }) }
+{}
+
+/// What goes on with what writes nothing goes as a whole.
+pub fn steps_go_on()
+    ensures { (s : Start) (g : Going) (first : List NotedValue) (h : Going) (second : List NotedValue) (k : Going) → Goes s g first h → Goes s h second k → all_are writes_nothing second ≡ true → Goes s g (first ++ second) k }
+{}
+
+/// What writes nothing leaves all values by plain evaluation.
+pub fn values_stay_where_nothing_is_written()
+    ensures { (s : Start) (es block : List NotedValue) → all_are writes_nothing block ≡ true → (row : ℕ) → plain_code s (es ++ block) row ≡ plain_code s es row }
 {}

@@ -21,7 +21,7 @@ use Rattle.run_history.specs.Going.{Start, start_of, opened_at, just_opened, not
 use Rattle.run_history.specs.Calls.{StandsNow, set, get, pump, Makes, CallsLead, calls_by}
 use Rattle.run_weave.specs.Lanes.{LaneSpeaks, ended, speaks, LanesSpeak, lane_of, TargetsFit}
 use Rattle.run_weave.specs.Worked.{number, node, made, going, copy_places, copy_opened, pumped, copy_calls, copy_entries, copy_end, copy_lanes}
-use Rattle.run_weave.proofs.Link.{nothing_goes}
+use Rattle.run_history.proofs.Steps.{nothing_goes}
 use Rattle.run_weave.proofs.Whole.{lanes_speak}
 use Rattle.run_weave.proofs.Laid.{copy_fits}
 use Rattle.plain_evaluation.specs.Place.{Place, place_at}

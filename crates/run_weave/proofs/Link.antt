@@ -21,6 +21,7 @@ use Rattle.run_history.specs.Calls.{IsFull, Stops, RowStops, Call, set, get, pum
 use Rattle.run_history.specs.History.{may_draw, Says, Owes, Does}
 use Rattle.run_history.proofs.Cut.{none_some, some_same}
 use Rattle.run_history.proofs.Lists.{append_nil}
+use Rattle.run_history.proofs.Steps.{nothing_goes}
 use Rattle.run_weave.specs.Lanes.{IsQuietly, stopped, set_reply, get_reply, IsEditReply, Speaks, TargetsFit}
 use Rattle.run_weave.proofs.Weave.{quietly}
 
@@ -168,9 +169,6 @@ module _ (past : List Phase) (o : Opened) (fits : TargetsFit o) (g : Going) (blo
 
 pub goes : (past : List Phase) (o : Opened) → TargetsFit o → (g : Going) (m : MadeCall) (h : Going) (d : Done) (t : Makes (start_of past o) g m h) → Speaks o m.call d.op d.reply → Does past o g (record { pass = m.pass; done = d; block = t.0 }) h
 goes past o fits g m h d t q = let l = linked past o fits g t.0 h m.pass m.call d.op d.reply q t.1.1 in record { goes = t.1.0; says = l.says; answers = l.answers; owes = l.owes }
-
-pub nothing_goes : (s : Start) (g : Going) → Goes s g [] g
-nothing_goes s g = record { entries = sym (append_nil g.entries); numbered = (omega arith, λ l. absurd (omega arith)); of_plan = λ e i. absurd i; differ = tt; fit = λ e i. absurd i }
 
 named_answers : (o : Opened) (x : ScriptOp) (n m : ℕ) → named_owner o x ≡ Some n → is_answer x (reply.Disposed m) ≡ true
 named_answers o (op.Set id key code) n m e = refl

@@ -19,7 +19,7 @@ use Rattle.values.specs.declared.code.Code.TheVariants.{Empty}
 use Rattle.values.specs.declared.expr.Expr.TheVariants.{Lit}
 use Rattle.values.specs.declared.plan.Kind.TheVariants as kind
 use Rattle.run_weave.specs.Worked.{number, node, made, going, area_opened, area_calls, area_lanes, area_end, store_opened, insert, edits_calls, edits_lanes, edits_end, shared_calls, shared_lanes, shared_end}
-use Rattle.run_weave.proofs.Link.{nothing_goes}
+use Rattle.run_history.proofs.Steps.{nothing_goes, one_goes as entry_goes}
 use Rattle.run_weave.proofs.Whole.{lanes_speak}
 use Rattle.run_weave.proofs.Opens.{row_or}
 
@@ -27,13 +27,7 @@ use Rattle.run_weave.proofs.Opens.{row_or}
 
 pub one_goes : (s : Start) (es : List Noted) (drawn : ℕ) (f : Fact) → drawn < LAST_NUMBER → IsOfPlan (opened_at s) f → DiffersFrom (opened_at s) es f → EntryFits s es (es ++ note (drawn + 1) f ∷ []) f
     → Goes s (going es drawn) (note (drawn + 1) f ∷ []) (going (es ++ note (drawn + 1) f ∷ []) (drawn + 1))
-one_goes s es drawn f room of_plan differs fits = record {
-  entries = refl;
-  numbered = (omega arith, inl refl, (λ l. absurd (omega arith)), (omega arith, λ l. absurd (omega arith)));
-  of_plan = λ e i. ⊎_elim (λ (q : note (drawn + 1) f ≡ e). subst (λ (x : Noted). IsOfPlan (opened_at s) x.fact) q of_plan) (λ z. absurd z) i;
-  differ = (differs, tt);
-  fit = λ e i. ⊎_elim (λ (q : note (drawn + 1) f ≡ e). subst (λ (x : Noted). EntryFits s es (es ++ note (drawn + 1) f ∷ []) x.fact) q fits) (λ z. absurd z) i;
-}
+one_goes s es drawn f room of_plan differs fits = entry_goes s (going es drawn) f (inl room) of_plan differs fits
 
 -- ---- the area
 
