@@ -2,3 +2,4 @@ pub mod Areas
 pub mod Around
 pub mod Bounds
 pub mod Dead
+pub mod Targets

@@ -1,5 +1,5 @@
 //! Laws of the definitions. Each is the contract of a function that does nothing.
-ghost use Rattle.std.specs.Prelude.{◌≡◌, ◌⊎◌, ◌↔◌, ◌≤◌, ℕ, ◌∷◌, ◌++◌, Some, None, Option as OptionOf, List, length, sum_by};
+ghost use Rattle.std.specs.Prelude.{◌≡◌, ◌⊎◌, ◌↔◌, ◌≤◌, ℕ, true, false, Some, None, is_some, Option as OptionOf, List, length, sum_by};
 ghost use Rattle.values.specs.declared.code.Code.{Code as CodeValue};
 ghost use Rattle.values.specs.declared.plan.Noted.{Noted as NotedValue};
 ghost use Rattle.values.specs.declared.plan.Pumped.{Pumped as PumpedValue};
@@ -7,13 +7,16 @@ ghost use Rattle.component_items.specs.declared.component.Component.{Component a
 ghost use Rattle.script_items.specs.declared.operation.ScriptOp.{ScriptOp as OpValue};
 ghost use Rattle.run_items.specs.declared.answer.Reply.TheVariants as reply;
 ghost use Rattle.component_items.specs.Kept.{IsKept};
-ghost use Rattle.plain_evaluation.specs.Held.{Held, first_held};
-ghost use Rattle.plain_evaluation.specs.Killed.{going_with};
+ghost use Rattle.plain_evaluation.specs.Fits.{Fits};
+ghost use Rattle.plain_evaluation.specs.Held.{Held, first_held, is_live, rows_held};
+ghost use Rattle.plain_evaluation.specs.Killed.{going_with, OwnersFit};
+ghost use Rattle.plan_meaning.specs.There.{has_key};
+ghost use Rattle.plan_meaning.specs.Told.{kind_of_id, owner_of_id, store_of_id};
 ghost use Rattle.run_meaning.specs.Causes.{Caused, IsSpent, PumpedBy};
 ghost use Rattle.run_meaning.specs.Explained.{Explained};
 ghost use Rattle.run_meaning.specs.Lane.{Done, numbers};
 ghost use Rattle.run_meaning.specs.Merge.{NotedOnce};
-ghost use Rattle.run_meaning.specs.Opened.{Opened, area_of, dead_owners, opened_of};
+ghost use Rattle.run_meaning.specs.Opened.{Opened, at_row, at_none, at_dead, area_of, dead_owners, opened_of};
 ghost use Rattle.run_meaning.specs.Phase.{Phase, IsJournal, disposed_before};
 ghost use Rattle.run_meaning.specs.Run.{Runs, Settled, phases_of, held_arrived};
 ghost use Rattle.run_meaning.specs.Words.{In, times};
@@ -51,4 +54,12 @@ pub fn areas_are_what_disposals_take()
 pub fn the_dead_were_disposed()
     ensures was { (component : ComponentValue) (keys : ℕ → OptionOf CodeValue) (steps : List Settled) (last : Held) (n : ℕ) → IsKept component → Runs component (held_arrived keys (first_held component)) steps last → In n (dead_owners last) ↔ In n (disposed_before (phases_of steps)) }
     ensures once { (component : ComponentValue) (keys : ℕ → OptionOf CodeValue) (steps : List Settled) (last : Held) (n : ℕ) → IsKept component → Runs component (held_arrived keys (first_held component)) steps last → times n (disposed_before (phases_of steps)) ≤ 1 }
+{}
+
+/// What a dead owner owned stands for that. Of a live owner, what has a value for each row of a store stands for no
+/// row exactly where the store has no row with the key, and all else that has a value stands for a row of the plan.
+pub fn ids_stand_for_what_is_there()
+    ensures dead { (component : ComponentValue) (held : Held) (id : ℕ) (key : OptionOf CodeValue) → is_live held (owner_of_id component id) ≡ false → (opened_of component held).target id key ≡ at_dead (owner_of_id component id) }
+    ensures no_row { (component : ComponentValue) (held : Held) (id store : ℕ) (key : CodeValue) → IsKept component → Fits component held → OwnersFit component held → is_some (kind_of_id component id) ≡ true → is_live held (owner_of_id component id) ≡ true → store_of_id component id ≡ Some store → ((opened_of component held).target id (Some key) ≡ at_none) ↔ (has_key (rows_held held store) key ≡ false) }
+    ensures row { (component : ComponentValue) (held : Held) (id : ℕ) → IsKept component → Fits component held → OwnersFit component held → is_some (kind_of_id component id) ≡ true → is_live held (owner_of_id component id) ≡ true → store_of_id component id ≡ None → (row : ℕ) × ((opened_of component held).target id None ≡ at_row row) }
 {}
