@@ -17,8 +17,6 @@ pub type Production = &'static [Symbol<Terminal, Rule, Action>];
 /// on the stack in the rule's place. Every token chooses one, also one that fits none of them: that shows at the
 /// next terminal, for which such a token may not stand. `docs/LANGUAGE.md` has the productions as a person reads
 /// them.
-// Within a reader's loop the choices of all rules would be worked out for each token.
-#[inline(never)]
 pub fn production(rule: Rule, token: Seen) -> Production
     ensures { production_at (spec.productions rule) (ahead.choice rule token) ≡ Some result.now }
 {

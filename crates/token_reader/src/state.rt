@@ -28,6 +28,8 @@ pub trait TextState<W, R, D> {
 
     /// The symbols to which the productions lead that the next token chooses for the rule, and for rules that then come
     /// first: its production, or what stands for that in fewer steps.
+    // Within the reader's loop the choices of all rules would be worked out for each token.
+    #[inline(never)]
     fn expansion(rule: R, token: Seen) -> &'static [Symbol<W, R, D>]
         ensures { Expands rules.table rules.lookahead token rule result.now }
     {
