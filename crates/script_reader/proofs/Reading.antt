@@ -7,7 +7,7 @@ use Rattle.part_meaning.specs.Part.{IsReadTo, IsRefused}
 use Rattle.token_reader.specs.Rules.{language}
 use Rattle.token_reader.specs.Refused.{IsRefusedOr}
 use Rattle.script_meaning.specs.Names.{names_of}
-use Rattle.script_meaning.specs.Script.{script_text, IsScript, IsNoScript}
+use Rattle.script_meaning.specs.Script.{script_text, IsScript}
 use Rattle.script_meaning.specs.State.{State, start_for}
 use Rattle.script_meaning.proofs.Grows.{texts_only_grow}
 use Rattle.script_state.specs.Rules.{rules}

@@ -1,4 +1,4 @@
-//! Reads the text of a script for a component (`docs/LANGUAGE.md`, "Scripts").
+//! Reads the text of a script for a component (`docs/LANGUAGE.md`, "Script texts").
 #![tactic(auto)]
 
 mod reader;

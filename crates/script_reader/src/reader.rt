@@ -9,12 +9,14 @@ ghost use Rattle.token_reader.specs.Rules as spec;
 ghost use Rattle.script_meaning.specs.Names.{names_of};
 ghost use Rattle.script_meaning.specs.Script.{IsScript};
 ghost use Rattle.script_meaning.specs.State.{start_for};
+ghost use Rattle.script_items.specs.KeptFor.{IsKeptFor};
 ghost use Rattle.script_state.specs.Rules.{rules};
 ghost use Rattle.script_reader.specs.Reads.{IsNoScriptOr, Extends};
 
 use crate::texts::add_texts;
 use component_items::{Component, Refusal};
-use script_items::Script;
+use script_items::{Script, kept_with_its_texts};
+use script_meaning::scripts_are_kept;
 use script_names::Names;
 use script_state::ScriptState;
 use std::alloc::Global;
@@ -41,8 +43,12 @@ fn read_state<'a>(
     ensures ok { IfOk result (IsReadTo (spec.language rules (start_for texts.entry.now names.entry.now) first_line) bytes.entry.now) }
     ensures bad { IfErr result (IsRefusedOr (spec.language rules (start_for texts.entry.now names.entry.now) first_line) bytes.entry.now) }
 {
-    let first = ScriptState::new(alloc, names, texts).map_err(|_| Refusal::NoMemory)?;
-    read_bytes::<Terminal, Rule, Action, ScriptState<'a>>(alloc, first, bytes, first_line)
+    match ScriptState::new(alloc, names, texts) {
+        Ok(first) => {
+            read_bytes::<Terminal, Rule, Action, ScriptState<'a>>(alloc, first, bytes, first_line)
+        }
+        Err(_) => Err(Refusal::NoMemory),
+    }
 }
 
 /// The script of a state, and copies of its texts from this number on.
@@ -87,15 +93,18 @@ fn read_parts(
     requires { length bytes.now + first_line < 2 ^ 31 }
     ensures ok { IfOk result (λ read. IsScript component.now first_line bytes.now read.script (component.now.texts ++ map string_bytes read.texts.items)) }
     ensures table { IfOk result (λ read. IsTable (component.now.texts ++ map string_bytes read.texts.items)) }
+    ensures kept { IfOk result (λ read. IsKeptFor component.now read.script (component.now.texts ++ map string_bytes read.texts.items)) }
     ensures bad { IfErr result (IsNoScriptOr component.now first_line bytes.now) }
 {
+    let _ = component.items();
+    scripts_are_kept();
     match Names::new(alloc, component) {
         Ok(names) => read_named(alloc, &names, component, bytes, first_line),
         Err(_) => Err(Refusal::NoMemory),
     }
 }
 
-/// Reads the text of a script for the component, whose first line has this number (`docs/LANGUAGE.md`, "Scripts").
+/// Reads the text of a script for the component, whose first line has this number (`docs/LANGUAGE.md`, "Script texts").
 /// The texts of the script come into the component's table, behind those that are there. A `Bad` says why the bytes are
 /// the text of no script, and where. After a refusal the component has the same items and perhaps more texts.
 pub fn read_script(
@@ -109,7 +118,9 @@ pub fn read_script(
     ensures bad { IfErr result (IsNoScriptOr component.old first_line bytes.now) }
     ensures items { component.new.items ≡ component.old.items }
     ensures texts { Extends component.old.texts component.new.texts }
+    ensures kept { IfOk result (λ script. IsKeptFor component.new script component.new.texts) }
 {
+    kept_with_its_texts();
     let read = read_parts(alloc, component, bytes, first_line)?;
     add_texts(component, read.texts.as_slice())?;
     Ok(read.script)

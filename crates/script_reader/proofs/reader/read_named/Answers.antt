@@ -1,4 +1,4 @@
-use Rattle.std.proofs.Common.{◌≡◌, ◌≤◌, ◌++◌, length, map, drop, ap, ◌∙◌, sym, subst, arith}
+use Rattle.std.proofs.Common.{◌≡◌, ◌++◌, length, map, drop, ap, ◌∙◌, sym, subst, arith}
 use Rattle.std.specs.String.{string_bytes}
 use Rattle.values.specs.Texts.{IsTable}
 use Rattle.script_meaning.specs.Names.{names_of}

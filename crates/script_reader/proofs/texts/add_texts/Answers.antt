@@ -1,7 +1,6 @@
-use Rattle.std.proofs.Common.{◌≡◌, ◌++◌, map, take, ap, ◌∙◌, arith}
+use Rattle.std.proofs.Common.{arith}
 use Rattle.std.proofs.lemmas.Grind.{common_steps}
 use Rattle.std.specs.String.{string_bytes}
-use Rattle.values.specs.Texts.{with_text}
 use Rattle.script_reader.proofs.Tables.{next_comes_behind}
 use Rattle.script_reader.proofs.texts.add_texts.Goals as goal
 
