@@ -3,10 +3,12 @@ ghost use Rattle.std.specs.Prelude.{◌≡◌, ◌⊎◌, ◌↔◌, ◌≤◌, 
 ghost use Rattle.values.specs.declared.code.Code.{Code as CodeValue};
 ghost use Rattle.values.specs.declared.plan.Noted.{Noted as NotedValue};
 ghost use Rattle.values.specs.declared.plan.Pumped.{Pumped as PumpedValue};
+ghost use Rattle.values.specs.Plan.{IsLawful};
 ghost use Rattle.component_items.specs.declared.component.Component.{Component as ComponentValue};
 ghost use Rattle.script_items.specs.declared.operation.ScriptOp.{ScriptOp as OpValue};
 ghost use Rattle.run_items.specs.declared.answer.Reply.TheVariants as reply;
 ghost use Rattle.component_items.specs.Kept.{IsKept};
+ghost use Rattle.plain_evaluation.specs.Changed.{StoresFit};
 ghost use Rattle.plain_evaluation.specs.Fits.{Fits};
 ghost use Rattle.plain_evaluation.specs.Held.{Held, first_held, is_live, rows_held};
 ghost use Rattle.plain_evaluation.specs.Killed.{going_with, OwnersFit};
@@ -62,4 +64,16 @@ pub fn ids_stand_for_what_is_there()
     ensures dead { (component : ComponentValue) (held : Held) (id : ℕ) (key : OptionOf CodeValue) → is_live held (owner_of_id component id) ≡ false → (opened_of component held).target id key ≡ at_dead (owner_of_id component id) }
     ensures no_row { (component : ComponentValue) (held : Held) (id store : ℕ) (key : CodeValue) → IsKept component → Fits component held → OwnersFit component held → is_some (kind_of_id component id) ≡ true → is_live held (owner_of_id component id) ≡ true → store_of_id component id ≡ Some store → ((opened_of component held).target id (Some key) ≡ at_none) ↔ (has_key (rows_held held store) key ≡ false) }
     ensures row { (component : ComponentValue) (held : Held) (id : ℕ) → IsKept component → Fits component held → OwnersFit component held → is_some (kind_of_id component id) ≡ true → is_live held (owner_of_id component id) ≡ true → store_of_id component id ≡ None → (row : ℕ) × ((opened_of component held).target id None ≡ at_row row) }
+{}
+
+/// Each state of a run fits its component: its stores, and an owner is live only where the one around it is.
+pub fn states_of_a_run_fit()
+    ensures stores { (component : ComponentValue) (keys : ℕ → OptionOf CodeValue) (steps : List Settled) (last : Held) → IsKept component → Runs component (held_arrived keys (first_held component)) steps last → Fits component last }
+    ensures most { (component : ComponentValue) (keys : ℕ → OptionOf CodeValue) (steps : List Settled) (last : Held) → IsKept component → Runs component (held_arrived keys (first_held component)) steps last → StoresFit component last }
+    ensures owners { (component : ComponentValue) (keys : ℕ → OptionOf CodeValue) (steps : List Settled) (last : Held) → IsKept component → Runs component (held_arrived keys (first_held component)) steps last → OwnersFit component last }
+{}
+
+/// So each phase opens with a lawful plan.
+pub fn phases_open_with_lawful_plans()
+    ensures { (component : ComponentValue) (keys : ℕ → OptionOf CodeValue) (steps : List Settled) (last : Held) → IsKept component → Runs component (held_arrived keys (first_held component)) steps last → IsLawful (opened_of component last).plan }
 {}
