@@ -165,13 +165,20 @@ module _ (past : List Phase) (o : Opened) (base count pass : ℕ) (h : List Made
       ap (fact_at n) (w.1 ∙ (ap (λ (b : List Noted). (a.entries ++ b) ++ w.0) e ∙ append_assoc' a.entries (note n x ∷ []) w.0))
       ∙ (fact_skip n a.entries ((note n x ∷ []) ++ w.0) (λ i. let l = j.drawn_all n i in let m = num.0 in omega arith) ∙ fact_here n x w.0)
 
-  noted_as : (r : Reply) → VerdictFits (phase_of o base count h k) r → Says past o t.start t.there.made.block t.end pass d.op r → NotedAs (phase_of o base count h k) pass before d.op r
-  noted_as (reply.Set n) v s = (s.0, s.1, s.2, s.3, noted_at n (fact.Write s.0 s.1) s.4.block_is)
-  noted_as (reply.Edited n w) v s =
+  -- of an accepted edit, the edit of the place behind the lane's earlier ones
+  edit_of_place : (n : ℕ) (v : Verdict) → Says past o t.start t.there.made.block t.end pass d.op (reply.Edited n v) → fact_at n k.entries ≡ Some (fact.Edit pass (length (edits_in before)))
+  edit_of_place n v s =
       let all : edits_by pass t.start.entries ≡ 0 + length (edits_in (done_by pass t.there.front)) = edits_lane past o pass just_opened t.there.front t.start t.first in
       let some : length (edits_in (done_by pass t.there.front)) ≡ length (edits_in before) = ap (λ (x : List Done). length (edits_in x)) t.there.earlier in
       let index : edits_by pass t.start.entries ≡ length (edits_in before) = omega arith in
-      (noted_at n (fact.Edit pass (edits_by pass t.start.entries)) s.block_is ∙ ap (λ (i : ℕ). Some (fact.Edit pass i)) index, v)
+      noted_at n (fact.Edit pass (edits_by pass t.start.entries)) s.block_is ∙ ap (λ (i : ℕ). Some (fact.Edit pass i)) index
+
+  pub edit_noted : (n : ℕ) (v : Verdict) → d.reply ≡ reply.Edited n v → fact_at n k.entries ≡ Some (fact.Edit pass (length (edits_in before)))
+  edit_noted n v e = edit_of_place n v (subst (λ (r : Reply). Says past o t.start t.there.made.block t.end pass d.op r) e (said past o pass h k before d later t))
+
+  noted_as : (r : Reply) → VerdictFits (phase_of o base count h k) r → Says past o t.start t.there.made.block t.end pass d.op r → NotedAs (phase_of o base count h k) pass before d.op r
+  noted_as (reply.Set n) v s = (s.0, s.1, s.2, s.3, noted_at n (fact.Write s.0 s.1) s.4.block_is)
+  noted_as (reply.Edited n w) v s = (edit_of_place n w s, v)
   noted_as (reply.Got x n) v s = tt
   noted_as (reply.Disposal x) v s = tt
   noted_as (reply.Pumped x) v s = tt

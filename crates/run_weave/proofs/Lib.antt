@@ -5,4 +5,5 @@ mod Opens
 mod Laid
 mod Rows
 mod Copies
+mod Verdicts
 mod Refused

@@ -16,11 +16,10 @@ use Rattle.run_meaning.specs.Lane.{Done, set_row, code_in, get_row, target_of, n
 use Rattle.run_meaning.specs.Phase.{Phase}
 use Rattle.run_meaning.specs.Merge.{is_answer}
 use Rattle.run_meaning.specs.Causes.{IsOwned}
-use Rattle.run_history.specs.Going.{Start, start_of, Going, IsDead, IsOwnedBy, IsLiveRow, Goes, derived_of}
+use Rattle.run_history.specs.Going.{Start, start_of, Going, IsDead, IsOwnedBy, IsLiveRow, derived_of}
 use Rattle.run_history.specs.Calls.{IsFull, Stops, RowStops, Call, set, get, pump, dispose, edit, SaysAt, MadeCall, Makes}
 use Rattle.run_history.specs.History.{may_draw, Says, Owes, Does}
 use Rattle.run_history.proofs.Cut.{none_some, some_same}
-use Rattle.run_history.proofs.Lists.{append_nil}
 use Rattle.run_history.proofs.Steps.{nothing_goes}
 use Rattle.run_weave.specs.Lanes.{IsQuietly, stopped, set_reply, get_reply, IsEditReply, Speaks, TargetsFit}
 use Rattle.run_weave.proofs.Weave.{quietly}

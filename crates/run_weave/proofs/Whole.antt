@@ -47,6 +47,7 @@ pub record Woven (past : List Phase) (o : Opened) (lanes : List (List Done)) (k 
   pub follows : Follows past o just_opened history k
   pub by_passes : ByPasses (length lanes) history
   pub lanes_is : lanes_of (length lanes) history ≡ lanes
+  pub by : (pass : ℕ) → done_by pass history ≡ lane_of lanes pass
 
 pub woven : (past : List Phase) (o : Opened) (calls : List MadeCall) (k : Going) (lanes : List (List Done)) → CallsLead (start_of past o) just_opened calls k → LanesSpeak o calls lanes → TargetsFit o → Woven past o lanes k
 woven past o calls k lanes lead speak fits =
@@ -55,6 +56,7 @@ woven past o calls k lanes lead speak fits =
       follows = w.1;
       by_passes = by_lanes (length lanes) w.0 w.0 (λ m i. i) (λ p z. w.2 p ∙ ap (lane_of lanes) z) (λ p l. w.2 p ∙ none_past lanes p l);
       lanes_is = lanes_are w.0 lanes w.2;
+      by = w.2;
     }
 
 abbrev with_lanes : Opened → ℕ → ℕ → Going → List (List Done) → Phase

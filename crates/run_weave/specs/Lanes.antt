@@ -1,9 +1,10 @@
 -- Operations of lanes, of which some make a call of the graph and some none.
-use Rattle.std.specs.Prelude.{◌≡◌, ℕ, max, Result, Ok, Err, Option, Some, unwrap_or, List, [], ◌∷◌, length, replicate}
+use Rattle.std.specs.Prelude.{◌≡◌, ℕ, max, Result, Ok, Err, Option, Some, unwrap_or, List, [], ◌∷◌, length, map, replicate}
 use Rattle.values.specs.declared.code.Code.{Code}
 use Rattle.values.specs.declared.plan.Stop.{Stop}
 use Rattle.values.specs.declared.plan.Stop.TheVariants as stop
 use Rattle.store_fields.specs.declared.edit.Verdict.{Verdict}
+use Rattle.store_fields.specs.declared.edit.Verdict.TheVariants.{Absent}
 use Rattle.script_items.specs.declared.operation.ScriptOp.{ScriptOp}
 use Rattle.script_items.specs.declared.operation.ScriptOp.TheVariants as op
 use Rattle.script_items.specs.Script.{numbered}
@@ -12,6 +13,7 @@ use Rattle.run_items.specs.declared.answer.Reply.TheVariants as reply
 use Rattle.run_meaning.specs.Words.{In}
 use Rattle.run_meaning.specs.Opened.{Opened, at_row, at_none, dead_of}
 use Rattle.run_meaning.specs.Lane.{Done, set_row, code_in, get_row, target_of}
+use Rattle.run_meaning.specs.Edits.{held_written, verdict_in, edits_of}
 use Rattle.run_meaning.specs.Phase.{Phase}
 use Rattle.run_meaning.specs.Causes.{IsOwned}
 use Rattle.run_history.specs.Going.{start_of, Going, just_opened, IsOwnedBy}
@@ -87,3 +89,31 @@ phase_with o base lanes k = record { opened = o; lanes = lanes; drawn = k.drawn;
 abbrev pub OfCalls : (List Phase → Phase → Type 0) → Type 0
 OfCalls P = (past : List Phase) (o : Opened) (base : ℕ) (calls : List MadeCall) (k : Going) (lanes : List (List Done))
     → CallsLead (start_of past o) just_opened calls k → LanesSpeak o calls lanes → PastFits past o → TargetsFit o → P past (phase_with o base lanes k)
+
+-- ---- what comes of edits, which is known when the phase is settled
+
+abbrev pub told_reply : (ℕ → Verdict) → Reply → Reply
+told_reply verdicts (reply.Set n) = reply.Set n
+told_reply verdicts (reply.Got v n) = reply.Got v n
+told_reply verdicts (reply.Pumped y) = reply.Pumped y
+told_reply verdicts (reply.Disposal y) = reply.Disposal y
+told_reply verdicts (reply.Edited n v) = reply.Edited n (verdicts n)
+told_reply verdicts reply.NoRow = reply.NoRow
+told_reply verdicts (reply.Busy n) = reply.Busy n
+told_reply verdicts (reply.Again n) = reply.Again n
+told_reply verdicts (reply.Disposed n) = reply.Disposed n
+told_reply verdicts (reply.Full n) = reply.Full n
+
+abbrev pub told_done : (ℕ → Verdict) → Done → Done
+told_done verdicts d = record { op = d.op; reply = told_reply verdicts d.reply }
+
+abbrev pub told_lane : (ℕ → Verdict) → List Done → List Done
+told_lane verdicts lane = map (told_done verdicts) lane
+
+-- what comes of the edit with this number
+abbrev pub verdict_of : Phase → ℕ → Verdict
+verdict_of p n = unwrap_or (verdict_in (edits_of p.lanes p.entries) (held_written p.opened p.entries) n) Absent
+
+-- the phase with each edit told what comes of it
+abbrev pub told : Phase → Phase
+told p = record p { lanes = map (told_lane (verdict_of p)) p.lanes }
