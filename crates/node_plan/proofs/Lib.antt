@@ -1,2 +1,4 @@
 pub mod OwnersLemmas
 pub mod RowsLemmas
+pub mod StoreFits
+pub mod TitlesKept

@@ -8,3 +8,6 @@ mod rows;
 
 pub use layout::{Laid, lay_out};
 pub use node_names::{Names, NodePlace};
+
+#[cfg(test)]
+mod tests;
