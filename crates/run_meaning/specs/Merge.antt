@@ -25,7 +25,7 @@ use Rattle.run_meaning.specs.Edits.{held_written, verdict_in, edits_of}
 use Rattle.run_meaning.specs.Explained.{Explained}
 use Rattle.run_meaning.specs.Phase.{Phase, disposed_before}
 
--- ---- one: each operation has one answer, of its kind
+-- ---- each operation has one answer, of its kind
 
 abbrev pub is_set : ScriptOp → Bool
 is_set x = is_some (code_in x)
@@ -65,7 +65,7 @@ is_answer x (reply.Full n) = is_set x || is_get x || is_edit x
 abbrev pub Answered : Phase → Type 0
 Answered p = list_all (list_all (λ d. is_answer d.op d.reply)) p.lanes ≡ true
 
--- ---- two: the numbers of accepted sets and edits grow along the lane, and under them stands what was asked
+-- ---- the numbers of accepted sets and edits grow along the lane, and under them stands what was asked
 
 -- a set: the write of its row and value. An edit: that of the place behind the lane's earlier ones, with the verdict that it meets when the phase is settled.
 abbrev pub NotedAs : Phase → ℕ → List Done → ScriptOp → Reply → Type 0
@@ -84,13 +84,13 @@ pub record NotedInOrder (p : Phase) : Type 0 where
   pub grow : AllByRecursion (λ lane. GrowsFrom 0 (numbers lane)) p.lanes
   pub noted : Everywhere (λ pass before d later. NotedAs p pass before d.op d.reply) p.lanes
 
--- ---- three: each write and each edit of the journal belongs to exactly one reply
+-- ---- each write and each edit of the journal belongs to exactly one reply
 
 -- each number stands in the replies of all lanes together as often as among the writes and edits
 abbrev pub NotedOnce : Phase → Type 0
 NotedOnce p = (n : ℕ) → sum_by (λ lane. times n (numbers lane)) p.lanes ≡ times n (own_numbers p.entries)
 
--- ---- four: disposals
+-- ---- disposals
 
 -- the number lies above those of the lane's earlier sets and edits and below those of its later ones
 abbrev pub is_between : List Done → List Done → ℕ → Bool
@@ -124,7 +124,7 @@ pub record DisposedOnce (past : List Phase) (p : Phase) : Type 0 where
   pub sum : sum_by (sum_by (λ d. turned_in d.reply)) p.lanes ≡ length (disposed_in p.entries)
   pub asked : (n : ℕ) → In n (disposed_in p.entries) → list_any (list_any (names_area p.opened n)) p.lanes ≡ true
 
--- ---- five: pumps
+-- ---- pumps
 
 abbrev pub is_effect_node : PlanNode → Bool
 is_effect_node node = is_effect node.kind
@@ -175,7 +175,7 @@ pub record PumpsFit (past : List Phase) (p : Phase) : Type 0 where
   pub sum : sum_by (sum_by (λ d. ran_in d.reply)) p.lanes ≡ count_by is_ran p.entries
   pub void : count_by is_void p.entries ≤ sum_by (sum_by (λ d. missed_in d.reply)) p.lanes
 
--- ---- six: changes
+-- ---- changes
 
 -- a row's value after these entries, by its changes
 abbrev pub changed_to : Opened → ℕ → List Noted → Code
