@@ -1,4 +1,5 @@
-pub mod StartLemmas
+pub mod EvaluatedLemmas
 pub mod SameValues
-pub mod SamePage
-pub mod VoidKept
+pub mod PlaceLemmas
+pub mod TitlesKept
+pub mod WaitingLemmas

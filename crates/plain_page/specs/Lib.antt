@@ -1,3 +1,5 @@
-pub mod Start
+pub mod Evaluated
+pub mod Pairs
+pub mod Seen
 pub mod Buffer
-pub mod Worked
+pub mod Waiting

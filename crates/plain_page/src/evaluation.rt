@@ -1,140 +1,282 @@
-//! The value of each id at the start, from the items in text order.
-ghost use Rattle.std.specs.Prelude.{◌≡◌, ◌<◌, ◌≤◌, ◌^◌, suc, vec_len, IfOk, OnOk};
+//! The value of each place, from the items in text order.
+ghost use Rattle.std.specs.Prelude.{◌≡◌, OnOk, IfOk};
 ghost use Rattle.values.specs.Evaluation.{value_of};
-ghost use Rattle.plain_page.specs.Start.{code_at, none_by_id, with_id, after_attr, after_attrs, after_item, after_items};
+ghost use Rattle.plain_evaluation.specs.Held.{value_held, rows_held, arrived_held};
+ghost use Rattle.plain_evaluation.specs.Place.{of_row};
+ghost use Rattle.plain_evaluation.specs.Scratch.{scratch};
+ghost use Rattle.plan_lines.specs.Flags.{flag_at};
+ghost use Rattle.plain_page.specs.Evaluated.{place_in, seen_in, evaluated, arrived_value, loaded_by, after_attr, after_attrs, after_item, after_items, after_rows, for_each};
+ghost use Rattle.plain_page.specs.Seen.{values_seen, row_seen, given_in};
 
-use component_items::{Attr, Item};
+use crate::pairs::resource_pairs;
+use crate::place_values::{PlaceValues, ValuePlace};
+use crate::rows::{put_rows, row_at};
+use component_items::{Attr, Component, Item};
+use held_state::Held;
+use plan_lines::keyed_ids;
 use std::alloc::Global;
+use store_fields::Rows;
 use values::{Code, Expr, NoMemory};
 
-/// The value of each id of the items, by id.
-pub(crate) fn values_of(alloc: Global, items: &[Item]) -> Result<Vec<Code>, NoMemory>
-    ensures { IfOk result (λ values. code_at values.items ≡ after_items items.now none_by_id) }
+/// A row of a store.
+#[derive(Clone, Copy)]
+pub(crate) struct RowAround {
+    pub store: u32,
+    pub key: Code,
+}
+
+/// The value of each place of the component in the state.
+pub(crate) fn values_of(
+    alloc: Global,
+    component: &Component,
+    held: &Held,
+) -> Result<PlaceValues, NoMemory>
+    ensures { IfOk result (λ values. values_seen values ≡ scratch component.now held.now.held) }
 {
-    let mut values = Vec::new(alloc);
-    evaluate_items(items, &mut values)?;
+    let keyed = keyed_ids(alloc, component)?;
+    let items = component.items();
+    let pairs = resource_pairs(alloc, items)?;
+    let evaluation = Evaluation {
+        held,
+        keyed: keyed.as_slice(),
+        pairs: &pairs,
+    };
+    let mut values = PlaceValues::new(alloc);
+    if held.is_live(0) {
+        evaluation.items(items, None, &mut values)?;
+    }
     Ok(values)
 }
 
-#[cycle(evaluation)]
-fn evaluate_items(items: &[Item], values: &mut Vec<Code>) -> Result<(), NoMemory>
-    ensures { OnOk result (code_at values.new.items ≡ after_items items.now (code_at values.old.items)) }
-{
-    for item in items {
-        evaluate_item(item, values)?;
-    }
-    Ok(())
+/// What an evaluation looks at: the state, which ids have a place for each row, and the pairs of resources.
+#[derive(Drop)]
+pub(crate) struct Evaluation<'a> {
+    held: &'a Held,
+    keyed: &'a [bool],
+    pairs: &'a PlaceValues,
 }
 
-#[cycle(evaluation)]
-fn evaluate_item(item: &Item, values: &mut Vec<Code>) -> Result<(), NoMemory>
-    ensures { OnOk result (code_at values.new.items ≡ after_item item.now (code_at values.old.items)) }
-{
-    match item {
-        Item::Signal { id, start, .. } => set(values, *id as usize, *start),
-        Item::Memo { id, expr, .. } => evaluate(expr, *id as usize, values),
-        Item::Effect { id, expr, .. } => evaluate(expr, *id as usize, values),
-        Item::Resource { .. } => Ok(()),
-        Item::Load { id, key, .. } => evaluate_load(key, *id as usize, values),
-        Item::Store { .. } => Ok(()),
-        Item::Cleanup { .. } => Ok(()),
-        Item::Area { items, .. } => evaluate_items(items.as_slice(), values),
-        Item::If { id, cond, items } => {
-            evaluate(cond, *id as usize, values)?;
-            evaluate_items(items.as_slice(), values)
+impl Evaluation<'_> {
+    #[cycle(evaluation)]
+    fn items(
+        &self,
+        items: &[Item],
+        row: Option<RowAround>,
+        values: &mut PlaceValues,
+    ) -> Result<(), NoMemory>
+        ensures { OnOk result (values_seen values.new ≡ after_items (given_in self.now) items.now (row_seen row) (values_seen values.old)) }
+    {
+        for item in items {
+            self.item(item, row, values)?;
         }
-        Item::Each { .. } => Ok(()),
-        Item::Element { attrs, items, .. } => {
-            evaluate_attrs(attrs.as_slice(), values)?;
-            evaluate_items(items.as_slice(), values)
+        Ok(())
+    }
+
+    #[cycle(evaluation)]
+    fn item(
+        &self,
+        item: &Item,
+        row: Option<RowAround>,
+        values: &mut PlaceValues,
+    ) -> Result<(), NoMemory>
+        ensures { OnOk result (values_seen values.new ≡ after_item (given_in self.now) item.now (row_seen row) (values_seen values.old)) }
+    {
+        match item {
+            Item::Signal { id, .. } => values.set(place(*id as usize, row), self.signal(*id)),
+            Item::Memo { id, expr, .. } => self.evaluate(*id as usize, expr, row, values),
+            Item::Effect { id, expr, .. } => self.evaluate(*id as usize, expr, row, values),
+            Item::Resource { .. } => Ok(()),
+            Item::Load {
+                id,
+                resource,
+                key,
+                ..
+            } => {
+                self.evaluate(*id as usize + 1, key, row, values)?;
+                self.load(*id, *resource, row, values)
+            }
+            Item::Store { id, .. } => self.store(*id, values),
+            Item::Cleanup { .. } => Ok(()),
+            Item::Area { owner, items, .. } => {
+                if !self.held.is_live(*owner) {
+                    return Ok(());
+                }
+                self.items(items.as_slice(), row, values)
+            }
+            Item::If { id, cond, items } => {
+                self.evaluate(*id as usize, cond, row, values)?;
+                self.items(items.as_slice(), row, values)
+            }
+            Item::Each { store, items, .. } => match self.held.rows(*store) {
+                None => Ok(()),
+                Some(rows) => self.each(rows, *store, items.as_slice(), values),
+            },
+            Item::Element { attrs, items, .. } => {
+                self.attrs(attrs.as_slice(), row, values)?;
+                self.items(items.as_slice(), row, values)
+            }
+            Item::Text { .. } => Ok(()),
+            Item::Shown { id, expr } => self.evaluate(*id as usize, expr, row, values),
         }
-        Item::Text { .. } => Ok(()),
-        Item::Shown { id, expr } => evaluate(expr, *id as usize, values),
     }
-}
 
-fn evaluate_attrs(attrs: &[Attr], values: &mut Vec<Code>) -> Result<(), NoMemory>
-    ensures { OnOk result (code_at values.new.items ≡ after_attrs attrs.now (code_at values.old.items)) }
-{
-    for attr in attrs {
-        evaluate_attr(attr, values)?;
-    }
-    Ok(())
-}
-
-fn evaluate_attr(attr: &Attr, values: &mut Vec<Code>) -> Result<(), NoMemory>
-    ensures { OnOk result (code_at values.new.items ≡ after_attr attr.now (code_at values.old.items)) }
-{
-    match attr {
-        Attr::Bare { .. } | Attr::Fixed { .. } => Ok(()),
-        Attr::Shown { id, expr, .. } => evaluate(expr, *id as usize, values),
-    }
-}
-
-/// Gives the key of a load its value, and the load none: nothing has arrived.
-fn evaluate_load(key: &Expr, id: usize, values: &mut Vec<Code>) -> Result<(), NoMemory>
-    requires { id < 2 ^ 32 }
-    ensures { OnOk result (code_at values.new.items ≡ with_id id Code.Empty (with_id (suc id) (value_of key.now (code_at values.old.items)) (code_at values.old.items))) }
-{
-    evaluate(key, id + 1, values)?;
-    set(values, id, Code::Empty)
-}
-
-/// Gives the id the value of the expression over the values so far.
-fn evaluate(expr: &Expr, id: usize, values: &mut Vec<Code>) -> Result<(), NoMemory>
-    requires { id ≤ 2 ^ 32 }
-    ensures { OnOk result (code_at values.new.items ≡ with_id id (value_of expr.now (code_at values.old.items)) (code_at values.old.items)) }
-{
-    let code = value(expr, values.as_slice());
-    set(values, id, code)
-}
-
-/// The value of the expression over these values.
-fn value(expr: &Expr, values: &[Code]) -> Code
-    ensures { result ≡ value_of expr.now (code_at values.now) }
-{
-    match expr {
-        Expr::Lit(code) => *code,
-        Expr::Read(id) => get(values, *id),
-        Expr::Binary(op, left, right) => {
-            let left = value(left.get(), values);
-            let right = value(right.get(), values);
-            op.combine(left, right)
+    /// The items once for each row of the store.
+    #[cycle(evaluation)]
+    fn each(
+        &self,
+        rows: &Rows,
+        store: u32,
+        items: &[Item],
+        values: &mut PlaceValues,
+    ) -> Result<(), NoMemory>
+        ensures { OnOk result (values_seen values.new ≡ for_each (after_items (given_in self.now) items.now) store rows.now.rows (values_seen values.old)) }
+    {
+        for at in 0..rows.count() {
+            let key = row_at(rows, at).key;
+            self.items(items, Some(RowAround { store, key }), values)?;
         }
-        Expr::If(test, first, second) => {
-            if value(test.get(), values).truth() {
-                value(first.get(), values)
-            } else {
-                value(second.get(), values)
+        Ok(())
+    }
+
+    fn attrs(
+        &self,
+        attrs: &[Attr],
+        row: Option<RowAround>,
+        values: &mut PlaceValues,
+    ) -> Result<(), NoMemory>
+        ensures { OnOk result (values_seen values.new ≡ after_attrs (given_in self.now) attrs.now (row_seen row) (values_seen values.old)) }
+    {
+        for attr in attrs {
+            self.attr(attr, row, values)?;
+        }
+        Ok(())
+    }
+
+    fn attr(
+        &self,
+        attr: &Attr,
+        row: Option<RowAround>,
+        values: &mut PlaceValues,
+    ) -> Result<(), NoMemory>
+        ensures { OnOk result (values_seen values.new ≡ after_attr (given_in self.now) attr.now (row_seen row) (values_seen values.old)) }
+    {
+        match attr {
+            Attr::Bare { .. } | Attr::Fixed { .. } => Ok(()),
+            Attr::Shown { id, expr, .. } => self.evaluate(*id as usize, expr, row, values),
+        }
+    }
+
+    /// Gives each field of each row of the store its value.
+    fn store(&self, id: u32, values: &mut PlaceValues) -> Result<(), NoMemory>
+        ensures { OnOk result (values_seen values.new ≡ after_rows id (rows_held self.now.held.now.held id) (values_seen values.old)) }
+    {
+        match self.held.rows(id) {
+            None => Ok(()),
+            Some(rows) => put_rows(rows, id as usize, values),
+        }
+    }
+
+    /// The value of the signal with the id.
+    fn signal(&self, id: u32) -> Code
+        ensures { result ≡ value_held self.now.held.now.held id }
+    {
+        self.held.value(id).unwrap_or(Code::Empty)
+    }
+
+    /// Gives the id the value of the expression over the values so far.
+    fn evaluate(
+        &self,
+        id: usize,
+        expr: &Expr,
+        row: Option<RowAround>,
+        values: &mut PlaceValues,
+    ) -> Result<(), NoMemory>
+        ensures { OnOk result (values_seen values.new ≡ evaluated (given_in self.now) id expr.now (row_seen row) (values_seen values.old)) }
+    {
+        let code = self.value(expr, row, values);
+        values.set(place(id, row), code)
+    }
+
+    /// Gives the load the value of its resource for the key that arrived, where that is the value of its key.
+    fn load(
+        &self,
+        id: u32,
+        resource: u32,
+        row: Option<RowAround>,
+        values: &mut PlaceValues,
+    ) -> Result<(), NoMemory>
+        ensures { OnOk result (values_seen values.new ≡ loaded_by (given_in self.now) id resource (row_seen row) (values_seen values.old)) }
+    {
+        let key = self.read(id as usize + 1, row, values);
+        let code = self.value_arrived(resource, self.arrived(id), key);
+        values.set(place(id as usize, row), code)
+    }
+
+    /// The value of the resource for the key that arrived, where that is this one.
+    fn value_arrived(&self, resource: u32, arrived: Option<Code>, key: Code) -> Code
+        ensures { result ≡ arrived_value (λ code. values_seen self.now.pairs.now (of_row resource code)) arrived key }
+    {
+        match arrived {
+            None => Code::Empty,
+            Some(code) if code == key => {
+                self.pairs
+                    .get(ValuePlace::new(resource as usize, Some(code)))
+            }
+            Some(_) => Code::Empty,
+        }
+    }
+
+    /// The key that arrived for the load with the id, if one did.
+    fn arrived(&self, id: u32) -> Option<Code>
+        ensures { result ≡ arrived_held self.now.held.now.held id }
+    {
+        self.held.arrived(id).unwrap_or(None)
+    }
+
+    /// The value of the expression over these values.
+    fn value(&self, expr: &Expr, row: Option<RowAround>, values: &PlaceValues) -> Code
+        ensures { result ≡ value_of expr.now (seen_in (flag_at self.now.keyed.now) (values_seen values.now) (row_seen row)) }
+    {
+        match expr {
+            Expr::Lit(code) => *code,
+            Expr::Read(id) => self.read(*id as usize, row, values),
+            Expr::Binary(op, left, right) => {
+                let left = self.value(left.get(), row, values);
+                let right = self.value(right.get(), row, values);
+                op.combine(left, right)
+            }
+            Expr::If(test, first, second) => {
+                if self.value(test.get(), row, values).truth() {
+                    self.value(first.get(), row, values)
+                } else {
+                    self.value(second.get(), row, values)
+                }
             }
         }
     }
-}
 
-/// The value of the id.
-pub(crate) fn get(values: &[Code], id: u32) -> Code
-    ensures { result ≡ code_at values.now id }
-{
-    values.get(id as usize).copied().unwrap_or(Code::Empty)
-}
-
-/// Gives the id this value.
-fn set(values: &mut Vec<Code>, id: usize, code: Code) -> Result<(), NoMemory>
-    requires { id ≤ 2 ^ 32 }
-    ensures { OnOk result (code_at values.new.items ≡ with_id id code (code_at values.old.items)) }
-{
-    lengthen(values, id + 1)?;
-    values[id] = code;
-    Ok(())
-}
-
-/// Makes the list at least this long, with no value at each new place.
-fn lengthen(values: &mut Vec<Code>, len: usize) -> Result<(), NoMemory>
-    ensures same { OnOk result (code_at values.new.items ≡ code_at values.old.items) }
-    ensures long { OnOk result (len ≤ vec_len values.new) }
-{
-    for _ in values.len()..len {
-        values.push(Code::Empty)?;
+    /// The value of what the id stands for.
+    fn read(&self, id: usize, row: Option<RowAround>, values: &PlaceValues) -> Code
+        ensures { result ≡ seen_in (flag_at self.now.keyed.now) (values_seen values.now) (row_seen row) id }
+    {
+        match row {
+            None => values.get(ValuePlace::new(id, None)),
+            Some(row) if id == row.store as usize + 1 => row.key,
+            Some(row) => values.get(ValuePlace::new(id, self.is_keyed(id).then_some(row.key))),
+        }
     }
-    Ok(())
+
+    /// Whether the id has a place for each row of a store.
+    fn is_keyed(&self, id: usize) -> bool
+        ensures { result ≡ flag_at self.now.keyed.now id }
+    {
+        self.keyed.get(id).copied().unwrap_or(false)
+    }
+}
+
+/// The place of the id in the row, or in none.
+pub(crate) fn place(id: usize, row: Option<RowAround>) -> ValuePlace
+    ensures { result ≡ place_in (row_seen row) id }
+{
+    ValuePlace::new(id, row.map(|row| row.key))
 }

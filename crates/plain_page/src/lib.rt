@@ -1,11 +1,17 @@
-//! The page of a component where nothing has happened yet.
+//! The page of a component in a held state, by plain evaluation of its text: no graph and no cache, and in the
+//! time of what is evaluated and written.
 #![tactic(auto)]
 
 mod buffer;
 mod evaluation;
 mod page;
+mod pairs;
+mod pending;
+mod place_values;
+mod rows;
 
-pub use page::page_bytes;
+pub use page::{held_page_bytes, page_bytes};
+pub use pending::pending_loads;
 
 #[cfg(test)]
 mod tests;

@@ -1,62 +1,77 @@
-//! The page of a component where nothing has happened yet.
-ghost use Rattle.std.specs.Prelude.{◌≡◌, ◌++◌, codes, None, IfOk, OnOk};
+//! The page of a component.
+ghost use Rattle.std.specs.Prelude.{◌≡◌, ◌++◌, codes, Some, IfOk, OnOk};
 ghost use Rattle.std.specs.List.{flat_map};
 ghost use Rattle.html_out.specs.Shown.{text_at, shown};
 ghost use Rattle.plain_evaluation.specs.Held.{first_held};
 ghost use Rattle.plain_evaluation.specs.Page.{attr_bytes, opening, closing, item_bytes, items_bytes, page_of};
+ghost use Rattle.plain_evaluation.specs.Place.{place_at};
 ghost use Rattle.plain_page.specs.Buffer.{bytes_of};
-ghost use Rattle.plain_page.specs.Start.{code_at, none_by_id, after_items, view_by_id};
+ghost use Rattle.plain_page.specs.Seen.{values_seen, view_in};
 
 use crate::buffer::Buffer;
-use crate::evaluation::{get, values_of};
+use crate::evaluation::values_of;
+use crate::place_values::{PlaceValues, ValuePlace};
+use crate::rows::row_at;
 use component_items::{Attr, Component, Item};
+use held_state::Held;
 use std::alloc::Global;
+use store_fields::Rows;
 use values::{Code, NoMemory, Texts};
 
-/// The bytes of the component's page in its first state: signals have their starts, stores no rows, nothing
-/// has arrived for a load, and all areas are live (`docs/SEMANTICS.md`, "The page").
+/// The bytes of the component's page at the start: signals have their starts, stores no rows, nothing has
+/// arrived for a load, and all areas are live (`docs/SEMANTICS.md`, "The page").
 pub fn page_bytes(alloc: Global, component: &Component) -> Result<Vec<u8>, NoMemory>
     ensures { IfOk result (λ page. page.items ≡ page_of component.now (first_held component.now)) }
 {
-    let items = component.items();
-    bytes_by_id(alloc, component.texts(), items)
+    let held = Held::first(alloc, component)?;
+    held_page_bytes(alloc, component, &held)
 }
 
-/// The bytes of items with these texts, where nothing has happened yet.
-pub(crate) fn bytes_by_id(alloc: Global, texts: &Texts, items: &[Item]) -> Result<Vec<u8>, NoMemory>
-    ensures { IfOk result (λ page. page.items ≡ items_bytes (view_by_id texts.now (after_items items.now none_by_id)) items.now None) }
+/// The bytes of the component's page in this state: each value is that of plain evaluation, dead areas are left
+/// out, and what is in an `each` stands there once for each row (`docs/SEMANTICS.md`, "The page").
+pub fn held_page_bytes(
+    alloc: Global,
+    component: &Component,
+    held: &Held,
+) -> Result<Vec<u8>, NoMemory>
+    ensures { IfOk result (λ page. page.items ≡ page_of component.now held.now.held) }
 {
-    let values = values_of(alloc, items)?;
+    let values = values_of(alloc, component, held)?;
     let writer = Writer {
-        texts,
-        values: values.as_slice(),
+        texts: component.texts(),
+        values: &values,
+        held,
     };
     let mut page = Buffer::new(alloc);
-    writer.items(&mut page, items)?;
+    if held.is_live(0) {
+        writer.items(&mut page, component.items(), None)?;
+    }
     Ok(page.into_bytes())
 }
 
-/// What a page shows: the texts of the component, and the value of each id.
+/// What a page shows: the texts of the component, the value of each place, and the state.
 #[derive(Drop)]
-struct Writer<'a> {
+pub(crate) struct Writer<'a> {
     texts: &'a Texts,
-    values: &'a [Code],
+    values: &'a PlaceValues,
+    held: &'a Held,
 }
 
 impl Writer<'_> {
+    /// Items in the row with the key, or in none.
     #[cycle(writing)]
-    fn items(&self, page: &mut Buffer, items: &[Item]) -> Result<(), NoMemory>
-        ensures { OnOk result (bytes_of page.new ≡ bytes_of page.old ++ items_bytes (view_by_id self.now.texts.now (code_at self.now.values.now)) items.now None) }
+    fn items(&self, page: &mut Buffer, items: &[Item], key: Option<Code>) -> Result<(), NoMemory>
+        ensures { OnOk result (bytes_of page.new ≡ bytes_of page.old ++ items_bytes (view_in self.now) items.now key) }
     {
         for item in items {
-            self.item(page, item)?;
+            self.item(page, item, key)?;
         }
         Ok(())
     }
 
     #[cycle(writing)]
-    fn item(&self, page: &mut Buffer, item: &Item) -> Result<(), NoMemory>
-        ensures { OnOk result (bytes_of page.new ≡ bytes_of page.old ++ item_bytes (view_by_id self.now.texts.now (code_at self.now.values.now)) item.now None) }
+    fn item(&self, page: &mut Buffer, item: &Item, key: Option<Code>) -> Result<(), NoMemory>
+        ensures { OnOk result (bytes_of page.new ≡ bytes_of page.old ++ item_bytes (view_in self.now) item.now key) }
     {
         match item {
             Item::Signal { .. } => Ok(()),
@@ -66,43 +81,68 @@ impl Writer<'_> {
             Item::Load { .. } => Ok(()),
             Item::Store { .. } => Ok(()),
             Item::Cleanup { .. } => Ok(()),
-            Item::Area { items, .. } => self.items(page, items.as_slice()),
-            Item::If { id, items, .. } => {
-                if get(self.values, *id).truth() {
-                    self.items(page, items.as_slice())?;
+            Item::Area { owner, items, .. } => {
+                if !self.held.is_live(*owner) {
+                    return Ok(());
                 }
-                Ok(())
+                self.items(page, items.as_slice(), key)
             }
-            // No store has a row yet.
-            Item::Each { .. } => Ok(()),
+            Item::If { id, items, .. } => {
+                if !self.value(*id, key).truth() {
+                    return Ok(());
+                }
+                self.items(page, items.as_slice(), key)
+            }
+            Item::Each { store, items, .. } => match self.held.rows(*store) {
+                None => Ok(()),
+                Some(rows) => self.each(page, rows, items.as_slice()),
+            },
             Item::Element {
                 tag,
                 closed,
                 attrs,
                 items,
             } => {
-                self.opening(page, *tag, attrs.as_slice())?;
-                self.items(page, items.as_slice())?;
+                self.opening(page, *tag, attrs.as_slice(), key)?;
+                self.items(page, items.as_slice(), key)?;
                 self.closing(page, *tag, *closed)
             }
             Item::Text { text } => page.put_text(self.text(*text)),
-            Item::Shown { id, .. } => self.shown(page, *id, false),
+            Item::Shown { id, .. } => self.shown(page, *id, key, false),
         }
     }
 
+    /// The items once for each row of the store.
+    #[cycle(writing)]
+    fn each(&self, page: &mut Buffer, rows: &Rows, items: &[Item]) -> Result<(), NoMemory>
+        ensures { OnOk result (bytes_of page.new ≡ bytes_of page.old ++ flat_map (λ row. items_bytes (view_in self.now) items.now (Some row.key)) rows.now.rows) }
+    {
+        for at in 0..rows.count() {
+            let key = row_at(rows, at).key;
+            self.items(page, items, Some(key))?;
+        }
+        Ok(())
+    }
+
     /// What begins an element.
-    fn opening(&self, page: &mut Buffer, tag: u32, attrs: &[Attr]) -> Result<(), NoMemory>
-        ensures { OnOk result (bytes_of page.new ≡ bytes_of page.old ++ opening (view_by_id self.now.texts.now (code_at self.now.values.now)) None tag attrs.now) }
+    fn opening(
+        &self,
+        page: &mut Buffer,
+        tag: u32,
+        attrs: &[Attr],
+        key: Option<Code>,
+    ) -> Result<(), NoMemory>
+        ensures { OnOk result (bytes_of page.new ≡ bytes_of page.old ++ opening (view_in self.now) key tag attrs.now) }
     {
         page.put(b"<")?;
         page.put(self.text(tag).as_bytes())?;
-        self.attrs(page, attrs)?;
+        self.attrs(page, attrs, key)?;
         page.put(b">")
     }
 
     /// What ends an element, where it has an end tag.
     fn closing(&self, page: &mut Buffer, tag: u32, closed: bool) -> Result<(), NoMemory>
-        ensures { OnOk result (bytes_of page.new ≡ bytes_of page.old ++ closing (view_by_id self.now.texts.now (code_at self.now.values.now)) tag closed) }
+        ensures { OnOk result (bytes_of page.new ≡ bytes_of page.old ++ closing (view_in self.now) tag closed) }
     {
         if !closed {
             return Ok(());
@@ -112,17 +152,17 @@ impl Writer<'_> {
         page.put(b">")
     }
 
-    fn attrs(&self, page: &mut Buffer, attrs: &[Attr]) -> Result<(), NoMemory>
-        ensures { OnOk result (bytes_of page.new ≡ bytes_of page.old ++ flat_map (attr_bytes (view_by_id self.now.texts.now (code_at self.now.values.now)) None) attrs.now) }
+    fn attrs(&self, page: &mut Buffer, attrs: &[Attr], key: Option<Code>) -> Result<(), NoMemory>
+        ensures { OnOk result (bytes_of page.new ≡ bytes_of page.old ++ flat_map (attr_bytes (view_in self.now) key) attrs.now) }
     {
         for attr in attrs {
-            self.attr(page, attr)?;
+            self.attr(page, attr, key)?;
         }
         Ok(())
     }
 
-    fn attr(&self, page: &mut Buffer, attr: &Attr) -> Result<(), NoMemory>
-        ensures { OnOk result (bytes_of page.new ≡ bytes_of page.old ++ attr_bytes (view_by_id self.now.texts.now (code_at self.now.values.now)) None attr.now) }
+    fn attr(&self, page: &mut Buffer, attr: &Attr, key: Option<Code>) -> Result<(), NoMemory>
+        ensures { OnOk result (bytes_of page.new ≡ bytes_of page.old ++ attr_bytes (view_in self.now) key attr.now) }
     {
         match attr {
             Attr::Bare { name } => {
@@ -136,7 +176,7 @@ impl Writer<'_> {
             }
             Attr::Shown { name, id, .. } => {
                 self.name(page, *name)?;
-                self.shown(page, *id, true)?;
+                self.shown(page, *id, key, true)?;
                 page.put(b"\"")
             }
         }
@@ -152,10 +192,23 @@ impl Writer<'_> {
     }
 
     /// The value of an id, in an attribute's value or as a text.
-    fn shown(&self, page: &mut Buffer, id: u32, in_value: bool) -> Result<(), NoMemory>
-        ensures { OnOk result (bytes_of page.new ≡ bytes_of page.old ++ shown self.now.texts.now in_value (code_at self.now.values.now id)) }
+    fn shown(
+        &self,
+        page: &mut Buffer,
+        id: u32,
+        key: Option<Code>,
+        in_value: bool,
+    ) -> Result<(), NoMemory>
+        ensures { OnOk result (bytes_of page.new ≡ bytes_of page.old ++ shown self.now.texts.now in_value (values_seen self.now.values.now (place_at id key))) }
     {
-        page.put_code(get(self.values, id), self.texts, in_value)
+        page.put_code(self.value(id, key), self.texts, in_value)
+    }
+
+    /// The value of an id in the row with the key, or in none.
+    fn value(&self, id: u32, key: Option<Code>) -> Code
+        ensures { result ≡ values_seen self.now.values.now (place_at id key) }
+    {
+        self.values.get(ValuePlace::new(id as usize, key))
     }
 
     /// The text of this number. What is not in the table is the empty text.
