@@ -1,2 +1,4 @@
 pub mod RunLemmas
 pub mod LineLemmas
+pub mod FoundLemmas
+pub mod WorkedKept

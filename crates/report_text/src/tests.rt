@@ -1,11 +1,16 @@
 //! Worked reports, with ample memory.
+ghost use Rattle.std.specs.Prelude.{◌≡◌, ◌∷◌, [], IfOk};
+ghost use Rattle.report_text.specs.Worked.{two_loads};
 
-use crate::{put_code, put_phase};
+use crate::{put_code, put_phase, put_waiting};
+use component_items::{Component, Item, Items};
 use run_items::{Answer, Reply};
 use std::alloc::Global;
 use std::test::Fail;
 use store_fields::Verdict;
-use values::{Code, Disposal, Fact, NoMemory, Noted, Numbers, PlanOwner, Pumped, Texts};
+use values::{
+    Code, Codes, Disposal, Expr, Fact, NoMemory, Noted, Numbers, PlanOwner, Pumped, Texts,
+};
 
 fn texts_of(alloc: Global, more: &[&str]) -> Result<Texts, Fail> {
     let mut texts = Texts::new(alloc)?;
@@ -209,6 +214,74 @@ fn values_have_their_texts(rt: HostRuntime) -> Result<(), Fail> {
         let mut out = Vec::new(rt.alloc());
         put_code(&mut out, &texts, code)?;
         assert_eq!(rt; out.as_slice(), text.as_bytes());
+    }
+    Ok(())
+}
+
+fn load(id: u32, name: u32) -> Item
+    ensures { result ≡ Item.Load id name 0 (Expr.Read 1) }
+{
+    Item::Load {
+        id,
+        name,
+        resource: 0,
+        key: Expr::Read(1),
+    }
+}
+
+/// A load at the top, and one in an area.
+fn loads(alloc: Global) -> Result<Items, NoMemory>
+    ensures { IfOk result (λ items. items ≡ two_loads) }
+{
+    let mut inner = Items::new(alloc);
+    inner.push(load(5, 5))?;
+    let mut items = Items::new(alloc);
+    items.push(Item::Resource {
+        id: 0,
+        name: 1,
+        after: 0,
+        keys: Codes::new(alloc),
+        values: Codes::new(alloc),
+    })?;
+    items.push(Item::Signal {
+        id: 1,
+        name: 2,
+        start: Code::Empty,
+    })?;
+    items.push(load(2, 3))?;
+    items.push(Item::Area {
+        id: 4,
+        name: 4,
+        owner: 1,
+        items: inner,
+    })?;
+    Ok(items)
+}
+
+/// The component of these, which has all its texts.
+fn component(alloc: Global) -> Result<Option<Component>, Fail> {
+    let items = loads(alloc)?;
+    let texts = texts_of(alloc, &["user", "id", "who", "side", "mail"])?;
+    if texts.len() != 6 {
+        return Ok(None);
+    }
+    Ok(Some(Component::new(texts, items)))
+}
+
+#[test]
+fn a_line_for_each_load(rt: HostRuntime) -> Result<(), Fail> {
+    let alloc = rt.alloc();
+    let component = component(alloc)?.expect(&rt, "all six texts");
+    let rows: [(&[u32], &str); 4] = [
+        (&[], ""),
+        (&[2, 5], "waiting who\nwaiting side.mail\n"),
+        (&[5], "waiting side.mail\n"),
+        (&[5, 2, 9], "waiting side.mail\nwaiting who\nwaiting \n"),
+    ];
+    for (loads, lines) in rows {
+        let mut out = Vec::new(alloc);
+        put_waiting(&mut out, &component, loads)?;
+        assert_eq!(rt; out.as_slice(), lines.as_bytes());
     }
     Ok(())
 }
