@@ -6,4 +6,5 @@ mod Laid
 mod Rows
 mod Copies
 mod Verdicts
+mod Nested
 mod Refused

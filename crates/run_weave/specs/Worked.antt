@@ -136,6 +136,21 @@ copy_lanes =
     (record { op = op.Pump; reply = reply.Pumped (pumped 1 0) } ∷ record { op = op.Set 0 None (number 2); reply = reply.Set 2 } ∷ record { op = op.Get 1 None; reply = reply.Got (number 2) 3 } ∷ record { op = op.Pump; reply = reply.Pumped (pumped 1 0) } ∷ record { op = op.Pump; reply = reply.Pumped (pumped 0 1) } ∷ [])
     ∷ []
 
+-- ---- component 1|area out { area in { } }|---|phase lane dispose out
+
+abbrev pub nested_opened : Opened
+nested_opened = record {
+  held = record { holdings = nothing ∷ nothing ∷ []; live = true ∷ true ∷ true ∷ [] };
+  plan = record { nodes = []; owners = top ∷ record { parent = Some 0; cleanups = [] } ∷ record { parent = Some 1; cleanups = [] } ∷ [] };
+  places = [];
+  values = [];
+  target = λ id key. at_none;
+  owner_of = λ id. id;
+}
+
+abbrev pub nested_calls : List MadeCall
+nested_calls = made 1 (dispose 1 (record { now = 2; before = 0 })) ∷ []
+
 -- ---- what no calls lead to: the opening value after a write, and the number of another entry
 
 abbrev pub stale_calls : List MadeCall
