@@ -98,9 +98,6 @@ all_owners (e ∷ es) a = let i = all_owners es (and_right (is_disposal e.fact) 
     there (fact.Edit p i) e = absurd (true≢false (sym e))
 
 -- it disposes none, or is a disposal of an area
-pub Disposes : List Phase → Opened → Going → List Noted → Going → ScriptOp → Type 0
-Disposes past o g block h x = (disposed_in block ≡ []) ⊎ ((area : ℕ) × (y : Disposal) × (area_in x ≡ Some area) × IsDisposed (start_of past o) g block h area y)
-
 module _ (past : List Phase) (o : Opened) (g : Going) (block : List Noted) (h : Going) (pass : ℕ) (x : ScriptOp) where
   pub disposes_here : (r : Reply) → Says past o g block h pass x r → (disposed_in block ≡ []) ⊎ ((area : ℕ) × (y : Disposal) × (area_in x ≡ Some area) × IsDisposed (start_of past o) g block h area y)
   disposes_here (reply.Set n) s = inl (ap disposed_in s.4.block_is)

@@ -101,9 +101,6 @@ each_of P h all a (suc n) = (all a, each_of P h all (a + 1) n)
 
 -- ---- two: edits are counted by pass
 
-accepted_none : (x : ScriptOp) → accepted x None ≡ None
-accepted_none x = refl
-
 edited_is : (x : ScriptOp) (n : ℕ) (v : Verdict) → is_answer x (reply.Edited n v) ≡ true → length (cons_option (accepted x (Some n)) []) ≡ 1
 edited_is (op.Set i k c) n v e = absurd (true≢false (sym e))
 edited_is (op.Get i k) n v e = absurd (true≢false (sym e))

@@ -138,9 +138,6 @@ module _ (past : List Phase) (o : Opened) (fits : TargetsFit o) (g : Going) (blo
   get_linked row (Ok a) x e s = record { says = (row, e, s); answers = (is_get_op x row e a.0 a.1).0; owes = live_row x row (reply.Got a.0 a.1) (get_names past o fits x row e) s.live }
   get_linked row (Err why) x e s = row_stop x (derived_of start) row why (get_names past o fits x row e) (is_get_op x row e Empty 0).3 (λ n. (is_get_op x row e Empty n).1) (λ n. (is_get_op x row e Empty n).2) s
 
-  no_target : (x : ScriptOp) (t : Target) → target_of o x ≡ None → target_of o x ≡ Some t → ⊥
-  no_target x t none e = none_some t (sym none ∙ e)
-
   edit_linked : (owner : ℕ) (asked : Edit) (answer : Result ℕ Stop) (r : Reply) → owner ≡ o.owner_of asked.store → IsEditReply answer r → SaysAt start g block h pass (edit owner asked answer) → Linked (op.Change asked) r
   edit_linked owner asked (Ok n) r e q s = to_reply (op.Change asked) r (reply.Edited n q.0) q.1 (record {
     says = s.1;
