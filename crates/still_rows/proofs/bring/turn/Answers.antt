@@ -1,0 +1,129 @@
+use Rattle.std.proofs.Common.{◌≡◌, ◌∷◌, List, length, sym, subst, ap, ◌∙◌, arith}
+use Rattle.work_order.specs.declared.frame.Frame.{Frame}
+use Rattle.sources.specs.declared.opening.Opened.{Opened}
+use Rattle.still_rows.specs.declared.bring.Ended.{Ended}
+use Rattle.still_rows.specs.declared.clock.Clock.{Clock}
+use Rattle.work_order.specs.Order.{first_frame}
+use Rattle.still_rows.specs.Works.{IsStepped, IsOnward, EndsAs}
+use Rattle.still_rows.proofs.WorksLemmas.{row_of, node_of, stepped_same, below_steps, keep_steps, finish_steps, few_under, run_runs, gone_stack, gone_less}
+use Rattle.still_rows.proofs.FreshLemmas.{any_err}
+use Rattle.still_rows.proofs.bring.turn.Goals as goal
+
+pub row_at-requires : goal.row_at-requires
+row_at-requires c =
+    let g = c.go_on-gone.result.frame in
+    let e = c.go_on-gone.ensures in
+    let stack = gone_stack c.args.nodes.now c.args.rows.now c.args._root c.args.frame g c.args.frames.now c.requires.stack e.frame e.node in
+    let node = node_of c.args.nodes.now c.args.rows.now g e.frame in
+    let row = row_of c.args.nodes.now c.args.rows.now g c.requires.still.good e.frame in
+    let m = subst (λ (q : Ended). EndsAs c.args.nodes.now c.args.rows.now node.0 row.0 g c.go_on-gone.new.reads.list q) c.in-Below.is (e.ended node.0 row.0 node.1 row.1) in
+    let b = m.0 in let f = e.frame.below in let p = c.requires.still.good.paired in omega arith
+
+pub push-requires : goal.push-requires
+push-requires c =
+    let u = few_under _ _ _ _ c.args.frames.now c.requires.stack.2 in let w = c.requires.within in let f = c.requires.still.lawful.few in omega arith
+
+pub push-requires-in-Below : goal.push-requires-in-Below
+push-requires-in-Below c =
+    let u = few_under _ _ _ _ c.args.frames.now c.requires.stack.2 in let w = c.requires.within in let f = c.requires.still.lawful.few in let l = ap length c.push.ensures in omega arith
+
+pub keep-requires : goal.keep-requires
+keep-requires c = let e = c.go_on-gone.ensures in let f = e.frame.below in let p = c.requires.still.good.paired in omega arith
+
+pub finish-requires-clause-row : goal.finish-requires-clause-row
+finish-requires-clause-row c = λ row' r'.
+    let g = c.go_on-gone.result.frame in
+    let e = c.go_on-gone.ensures in
+    let node = node_of c.args.nodes.now c.args.rows.now g e.frame in
+    let m = subst (λ (q : Ended). EndsAs c.args.nodes.now c.args.rows.now node.0 row' g c.go_on-gone.new.reads.list q) c.in-Finish.is (e.ended node.0 row' node.1 r') in
+    run_runs c.args.nodes.now c.args.rows.now node.0 row' g c.in-Finish.code c.go_on-gone.new.reads.list c.requires.still.good c.requires.still.roomy e.frame node.1 r' m
+
+pub finish-requires-clause-due : goal.finish-requires-clause-due
+finish-requires-clause-due c =
+    let g = c.go_on-gone.result.frame in
+    let e = c.go_on-gone.ensures in
+    let node = node_of c.args.nodes.now c.args.rows.now g e.frame in
+    let row = row_of c.args.nodes.now c.args.rows.now g c.requires.still.good e.frame in
+    let m = subst (λ (q : Ended). EndsAs c.args.nodes.now c.args.rows.now node.0 row.0 g c.go_on-gone.new.reads.list q) c.in-Finish.is (e.ended node.0 row.0 node.1 row.1) in
+    m.due
+
+pub finish-requires-clause-node : goal.finish-requires-clause-node
+finish-requires-clause-node c = let e = c.go_on-gone.ensures in let f = e.frame.below in let p = c.requires.still.good.paired in omega arith
+
+pub returns-in_err-finish-in-Finish-clause-stepped : goal.returns-in_err-finish-in-Finish-clause-stepped
+returns-in_err-finish-in-Finish-clause-stepped c =
+    let e = c.in_err-finish-in-Finish.ensures in
+    rw (e.rows, e.readers, e.unchanged) (stepped_same _ _ _ _ c.requires.still)
+
+pub returns-in-Below-clause-stepped :
+    goal.returns-in-Below-clause-stepped
+returns-in-Below-clause-stepped c = stepped_same _ _ _ _ c.requires.still
+
+pub returns-in-Below-clause-onward :
+    goal.returns-in-Below-clause-onward
+returns-in-Below-clause-onward c =
+    let g = c.go_on-gone.result.frame in
+    let e = c.go_on-gone.ensures in
+    let stack = gone_stack c.args.nodes.now c.args.rows.now c.args._root c.args.frame g c.args.frames.now c.requires.stack e.frame e.node in
+    let node = node_of c.args.nodes.now c.args.rows.now g e.frame in
+    let row = row_of c.args.nodes.now c.args.rows.now g c.requires.still.good e.frame in
+    let m = subst (λ (q : Ended). EndsAs c.args.nodes.now c.args.rows.now node.0 row.0 g c.go_on-gone.new.reads.list q) c.in-Below.is (e.ended node.0 row.0 node.1 row.1) in
+    let y = c.row_at.result.now in
+    let first : c.new-first.result ≡ first_frame c.in-Below.source y.body.cause = c.new-first.ensures in
+    let e1 : c.push.new.self ≡ g ∷ c.args.frames.now = c.push.ensures in
+    let e2 : c.push-in-Below.new.self ≡ c.new-first.result ∷ c.push.new.self = c.push-in-Below.ensures in
+    let e3 : c.push-in-Below.new.self ≡ first_frame c.in-Below.source y.body.cause ∷ g ∷ c.args.frames.now = e2 ∙ (λ i. first i ∷ e1 i) in
+    subst (λ (l : List Frame). IsOnward c.args.nodes.now c.args.rows.now c.args.rows.now c.args._root (c.args.frame ∷ c.args.frames.now) l) (sym e3)
+    (gone_less _ _ _ _ c.args.frame g c.args.frames.now _ e.node e.less
+    (below_steps _ _ _ c.in-Below.source g c.args.frames.now node.0 y c.requires.still.lawful c.requires.still.good stack node.1 m c.row_at.ensures))
+
+pub returns-in-Keep-clause-stepped : goal.returns-in-Keep-clause-stepped
+returns-in-Keep-clause-stepped c =
+    let g = c.go_on-gone.result.frame in
+    let e = c.go_on-gone.ensures in
+    let stack = gone_stack c.args.nodes.now c.args.rows.now c.args._root c.args.frame g c.args.frames.now c.requires.stack e.frame e.node in
+    let node = node_of c.args.nodes.now c.args.rows.now g e.frame in
+    let row = row_of c.args.nodes.now c.args.rows.now g c.requires.still.good e.frame in
+    let m = subst (λ (q : Ended). EndsAs c.args.nodes.now c.args.rows.now node.0 row.0 g c.go_on-gone.new.reads.list q) c.in-Keep.is (e.ended node.0 row.0 node.1 row.1) in
+    subst (λ (r : List Opened). IsStepped c.args.nodes.now c.args.rows.now r c.args.readers.now c.args.readers.now c.args.clock.now c.args.clock.now) (sym (c.keep.ensures row.0 row.1))
+    (keep_steps _ _ _ c.args.readers.now c.args.clock.now g c.args.frames.now node.0 row.0 c.requires.still stack node.1 row.1 m).0
+
+pub returns-in-Keep-clause-onward : goal.returns-in-Keep-clause-onward
+returns-in-Keep-clause-onward c =
+    let g = c.go_on-gone.result.frame in
+    let e = c.go_on-gone.ensures in
+    let stack = gone_stack c.args.nodes.now c.args.rows.now c.args._root c.args.frame g c.args.frames.now c.requires.stack e.frame e.node in
+    let node = node_of c.args.nodes.now c.args.rows.now g e.frame in
+    let row = row_of c.args.nodes.now c.args.rows.now g c.requires.still.good e.frame in
+    let m = subst (λ (q : Ended). EndsAs c.args.nodes.now c.args.rows.now node.0 row.0 g c.go_on-gone.new.reads.list q) c.in-Keep.is (e.ended node.0 row.0 node.1 row.1) in
+    subst (λ (r : List Opened). IsOnward c.args.nodes.now c.args.rows.now r c.args._root (c.args.frame ∷ c.args.frames.now) c.args.frames.now) (sym (c.keep.ensures row.0 row.1))
+    (gone_less _ _ _ _ c.args.frame g c.args.frames.now _ e.node e.less
+    (keep_steps _ _ _ c.args.readers.now c.args.clock.now g c.args.frames.now node.0 row.0 c.requires.still stack node.1 row.1 m).1)
+
+pub returns-in_ok-finish-in-Finish-clause-stepped : goal.returns-in_ok-finish-in-Finish-clause-stepped
+returns-in_ok-finish-in-Finish-clause-stepped c =
+    let g = c.go_on-gone.result.frame in
+    let e = c.go_on-gone.ensures in
+    let stack = gone_stack c.args.nodes.now c.args.rows.now c.args._root c.args.frame g c.args.frames.now c.requires.stack e.frame e.node in
+    let node = node_of c.args.nodes.now c.args.rows.now g e.frame in
+    let row = row_of c.args.nodes.now c.args.rows.now g c.requires.still.good e.frame in
+    let m = subst (λ (q : Ended). EndsAs c.args.nodes.now c.args.rows.now node.0 row.0 g c.go_on-gone.new.reads.list q) c.in-Finish.is (e.ended node.0 row.0 node.1 row.1) in
+    let w = c.in_ok-finish-in-Finish.ensures in
+    (finish_steps _ _ _ _ _ _ _ _ g c.args.frames.now node.0 row.0 c.in-Finish.code c.go_on-gone.new.reads.list c.requires.still stack node.1 row.1 m w.clock (w.finished row.0 row.1)).0
+
+pub returns-in_ok-finish-in-Finish-clause-onward : goal.returns-in_ok-finish-in-Finish-clause-onward
+returns-in_ok-finish-in-Finish-clause-onward c =
+    let g = c.go_on-gone.result.frame in
+    let e = c.go_on-gone.ensures in
+    let stack = gone_stack c.args.nodes.now c.args.rows.now c.args._root c.args.frame g c.args.frames.now c.requires.stack e.frame e.node in
+    let node = node_of c.args.nodes.now c.args.rows.now g e.frame in
+    let row = row_of c.args.nodes.now c.args.rows.now g c.requires.still.good e.frame in
+    let m = subst (λ (q : Ended). EndsAs c.args.nodes.now c.args.rows.now node.0 row.0 g c.go_on-gone.new.reads.list q) c.in-Finish.is (e.ended node.0 row.0 node.1 row.1) in
+    let w = c.in_ok-finish-in-Finish.ensures in
+    gone_less _ _ _ _ c.args.frame g c.args.frames.now _ e.node e.less
+    (finish_steps _ _ _ _ _ _ _ _ g c.args.frames.now node.0 row.0 c.in-Finish.code c.go_on-gone.new.reads.list c.requires.still stack node.1 row.1 m w.clock (w.finished row.0 row.1)).1
+
+pub returns-in_err-finish-in-Finish-clause-full : goal.returns-in_err-finish-in-Finish-clause-full
+returns-in_err-finish-in-Finish-clause-full c =
+    let e = c.in_err-finish-in-Finish.ensures in
+    any_err c.from_residual.result (let a = e.full in let b = ap (λ (q : Clock). q.drawn) e.unchanged in omega arith)

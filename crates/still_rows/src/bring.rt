@@ -1,0 +1,132 @@
+//! Bringing a memo up to date.
+ghost use Rattle.std.specs.Prelude.{◌≡◌, ◌<◌, ◌≤◌, ◌+◌, ◌∷◌, [], length, slice_get, Some, OnOk, OnErr, false, true};
+ghost use Rattle.values.specs.declared.plan.PlanNode.{PlanNode as NodeValue};
+ghost use Rattle.values.specs.Reserved.{room_of};
+ghost use Rattle.sources.specs.declared.opening.Opened.{Opened as OpenedValue};
+ghost use Rattle.sources.specs.Colours.{is_clean};
+ghost use Rattle.sources.specs.Rows.{IsGood};
+ghost use Rattle.work_order.specs.Order.{first_frame};
+ghost use Rattle.still_rows.specs.Frames.{AreLawful, IsFrame, IsMemo};
+ghost use Rattle.still_rows.specs.Shown.{HasRoom};
+ghost use Rattle.still_rows.specs.Works.{IsStack, IsStill, IsStepped, IsOnward, work_of, EndsAs};
+
+use crate::clock::{Clock, Full};
+use crate::moves::{Moved, advance, row_at};
+use crate::stack::Stack;
+use crate::writes::{finish, keep};
+use sources::{Opened, Reads};
+use still_readers::Readers;
+use values::{Code, PlanNode};
+use work_order::Frame;
+
+/// How the work on one frame ends for now.
+#[derive(Clone, Copy, Debug)]
+pub enum Ended {
+    /// This source comes first.
+    Below(u32),
+    /// No recorded source differs.
+    Keep,
+    /// The run is whole, with this value.
+    Finish(Code),
+}
+
+/// A frame that went on, and how its work ends for now.
+#[derive(Clone, Copy, Debug)]
+pub struct Gone {
+    pub frame: Frame,
+    pub ended: Ended,
+}
+
+/// Steps on one frame, until a source comes first or the node is done.
+pub fn go_on(nodes: &[PlanNode], rows: &[Opened], reads: &mut Reads, mut frame: Frame) -> Gone
+    requires lawful { AreLawful nodes.now }
+    requires good { IsGood nodes.now rows.now }
+    requires frame { IsFrame nodes.now rows.now frame }
+    requires room { HasRoom nodes.now reads.old }
+    ensures room { room_of reads.new ≡ room_of reads.old }
+    ensures node { result.frame.node ≡ frame.node }
+    ensures frame { IsFrame nodes.now rows.now result.frame }
+    ensures less { work_of (slice_get rows.now frame.node) result.frame ≤ work_of (slice_get rows.now frame.node) frame }
+    ensures ended { (node : NodeValue) (row : OpenedValue) → slice_get nodes.now result.frame.node ≡ Some node →
+        slice_get rows.now result.frame.node ≡ Some row → EndsAs nodes.now rows.now node row result.frame reads.new.list result.ended }
+{
+    loop {
+        match advance(nodes, rows, reads, frame) {
+            Moved::On(next) => frame = next,
+            Moved::Below(source) => {
+                let ended = Ended::Below(source);
+                return Gone { frame, ended };
+            }
+            Moved::Keep => {
+                let ended = Ended::Keep;
+                return Gone { frame, ended };
+            }
+            Moved::Finish(code) => {
+                let ended = Ended::Finish(code);
+                return Gone { frame, ended };
+            }
+        }
+    }
+}
+
+/// One turn of the top frame: it goes on until a source comes first, or until its row is written.
+fn turn(
+    nodes: &[PlanNode],
+    rows: &mut [Opened],
+    readers: &mut Readers,
+    clock: &mut Clock,
+    frames: &mut Stack<Frame>,
+    reads: &mut Reads,
+    frame: Frame,
+    _root: u32,
+) -> Result<(), Full>
+    requires still { IsStill nodes.now rows.old readers.old clock.old }
+    requires within { _root < length nodes.now }
+    requires stack { IsStack nodes.now rows.old _root (frame ∷ frames.old) }
+    requires room { HasRoom nodes.now reads.old }
+    ensures room { room_of reads.new ≡ room_of reads.old }
+    ensures stepped { IsStepped nodes.now rows.old rows.new readers.old readers.new clock.old clock.new }
+    ensures onward { OnOk result (IsOnward nodes.now rows.old rows.new _root (frame ∷ frames.old) frames.new) }
+    ensures full { OnErr result (65536 ≤ clock.new.drawn) }
+{
+    let gone = go_on(nodes, rows, reads, frame);
+    match gone.ended {
+        Ended::Below(source) => {
+            let first = Frame::new(source, row_at(rows, source).body.cause);
+            frames.push(gone.frame);
+            frames.push(first);
+        }
+        Ended::Keep => keep(rows, gone.frame.node),
+        Ended::Finish(code) => finish(rows, readers, clock, reads, gone.frame, code)?,
+    }
+    Ok(())
+}
+
+/// Brings a memo that is not clean up to date, by the order of work. It takes no memory. After `Full`
+/// all rows are good: a run whose number is above the last has written nothing.
+pub fn bring_up(
+    nodes: &[PlanNode],
+    rows: &mut [Opened],
+    readers: &mut Readers,
+    clock: &mut Clock,
+    frames: &mut Stack<Frame>,
+    reads: &mut Reads,
+    root: u32,
+) -> Result<(), Full>
+    requires still { IsStill nodes.now rows.old readers.old clock.old }
+    requires within { root < length nodes.now }
+    requires memo { IsMemo nodes.now root }
+    requires unclean { (row : OpenedValue) → slice_get rows.old root ≡ Some row → is_clean row.colour ≡ false }
+    requires room { HasRoom nodes.now reads.old }
+    ensures room { room_of reads.new ≡ room_of reads.old }
+    ensures stepped { IsStepped nodes.now rows.old rows.new readers.old readers.new clock.old clock.new }
+    ensures clean { OnOk result ((row : OpenedValue) → slice_get rows.new root ≡ Some row → is_clean row.colour ≡ true) }
+    ensures full { OnErr result (65536 ≤ clock.new.drawn) }
+{
+    frames.clear();
+    frames.push(Frame::new(root, row_at(rows, root).body.cause));
+    while let Some(frame) = frames.pop() {
+        turn(nodes, rows, readers, clock, frames, reads, frame, root)?;
+    }
+    Ok(())
+}

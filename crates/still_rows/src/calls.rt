@@ -1,0 +1,173 @@
+//! The calls of one caller.
+ghost use Rattle.std.specs.Prelude.{◌≡◌, ◌≢◌, ◌<◌, ◌≤◌, ◌+◌, ◌-◌, length, slice_get, slice_set, Some, IfOk, OnOk, OnErr, true, ◌↔◌, IsTrue, ℕ, false};
+ghost use Rattle.values.specs.declared.plan.PlanNode.{PlanNode as NodeValue};
+ghost use Rattle.values.specs.PlanValues.{plan_value};
+ghost use Rattle.sources.specs.declared.opening.Opened.{Opened as OpenedValue};
+ghost use Rattle.sources.specs.Colours.{is_clean};
+ghost use Rattle.sources.specs.Rows.{value_in};
+ghost use Rattle.values.specs.Packing.{packed, unpacked};
+ghost use Rattle.still_readers.specs.Readers.{HasRead};
+ghost use Rattle.still_readers.specs.Marking.{IsDarkened, Reached, written_row, IsSource};
+ghost use Rattle.still_rows.specs.Clock.{IsTicked, now_of};
+ghost use Rattle.still_rows.specs.Works.{IsStill, IsStepped, IsWorkOf};
+
+use crate::bring::bring_up;
+use crate::clock::{Clock, Full};
+use crate::evaluating::value_of;
+use crate::moves::row_at;
+use crate::stack::Stack;
+use sources::{Colour, Opened, Reads};
+use still_readers::{Marking, Readers, write_row};
+use values::{Code, Fact, Kind, PlanNode};
+use work_order::Frame;
+
+/// What the calls work with, in memory that was taken before.
+#[derive(Debug, Drop)]
+pub struct Work {
+    pub(crate) frames: Stack<Frame>,
+    pub(crate) reads: Reads,
+    pub(crate) marking: Marking,
+}
+
+/// Brings a row up to date where it is not clean. Effects run by other calls.
+pub fn refresh(
+    nodes: &[PlanNode],
+    rows: &mut [Opened],
+    readers: &mut Readers,
+    clock: &mut Clock,
+    work: &mut Work,
+    node: u32,
+) -> Result<(), Full>
+    requires still { IsStill nodes.now rows.old readers.old clock.old }
+    requires work { IsWorkOf nodes.now work.old }
+    requires within { node < length nodes.now }
+    requires kind { (n : NodeValue) → slice_get nodes.now node ≡ Some n → n.kind ≢ Kind.Effect }
+    ensures work { IsWorkOf nodes.now work.new }
+    ensures stepped { IsStepped nodes.now rows.old rows.new readers.old readers.new clock.old clock.new }
+    ensures clean { OnOk result ((row : OpenedValue) → slice_get rows.new node ≡ Some row → is_clean row.colour ≡ true) }
+    ensures full { OnErr result (65536 ≤ clock.new.drawn) }
+{
+    if row_at(rows, node).colour.is_clean() {
+        return Ok(());
+    }
+    bring_up(
+        nodes,
+        rows,
+        readers,
+        clock,
+        &mut work.frames,
+        &mut work.reads,
+        node,
+    )
+}
+
+/// The value of a row, and the number under which it came in this phase: 0 for the opening value. The
+/// row is no effect.
+pub fn get(
+    nodes: &[PlanNode],
+    rows: &mut [Opened],
+    readers: &mut Readers,
+    clock: &mut Clock,
+    work: &mut Work,
+    node: u32,
+) -> Result<(Code, u64), Full>
+    requires still { IsStill nodes.now rows.old readers.old clock.old }
+    requires work { IsWorkOf nodes.now work.old }
+    requires within { node < length nodes.now }
+    requires kind { (n : NodeValue) → slice_get nodes.now node ≡ Some n → n.kind ≢ Kind.Effect }
+    ensures work { IsWorkOf nodes.now work.new }
+    ensures stepped { IsStepped nodes.now rows.old rows.new readers.old readers.new clock.old clock.new }
+    ensures value { IfOk result (λ answer. answer.0 ≡ plan_value nodes.now (value_in rows.old) node) }
+    ensures number { IfOk result (λ answer. (row : OpenedValue) → slice_get rows.new node ≡ Some row →
+        (answer.0 ≡ unpacked row.code) × (answer.1 ≡ row.version - clock.new.base)) }
+    ensures full { OnErr result (65536 ≤ clock.new.drawn) }
+{
+    refresh(nodes, rows, readers, clock, work, node)?;
+    let row = row_at(rows, node);
+    Ok((value_of(row.code), row.version.saturating_sub(clock.base)))
+}
+
+fn refresh_memo(
+    nodes: &[PlanNode],
+    rows: &mut [Opened],
+    readers: &mut Readers,
+    clock: &mut Clock,
+    work: &mut Work,
+    at: u32,
+    node: &PlanNode,
+) -> Result<(), Full>
+    requires still { IsStill nodes.now rows.old readers.old clock.old }
+    requires work { IsWorkOf nodes.now work.old }
+    requires node { slice_get nodes.now at ≡ Some node.now }
+    ensures work { IsWorkOf nodes.now work.new }
+    ensures stepped { IsStepped nodes.now rows.old rows.new readers.old readers.new clock.old clock.new }
+    ensures clean { OnOk result (node.now.kind ≡ Kind.Memo → (row : OpenedValue) → slice_get rows.new at ≡ Some row → is_clean row.colour ≡ true) }
+    ensures full { OnErr result (65536 ≤ clock.new.drawn) }
+{
+    if node.kind == Kind::Memo {
+        return refresh(nodes, rows, readers, clock, work, at);
+    }
+    Ok(())
+}
+
+/// Brings every memo up to date, in order of row.
+pub fn settle_memos(
+    nodes: &[PlanNode],
+    rows: &mut [Opened],
+    readers: &mut Readers,
+    clock: &mut Clock,
+    work: &mut Work,
+) -> Result<(), Full>
+    requires still { IsStill nodes.now rows.old readers.old clock.old }
+    requires work { IsWorkOf nodes.now work.old }
+    ensures work { IsWorkOf nodes.now work.new }
+    ensures stepped { IsStepped nodes.now rows.old rows.new readers.old readers.new clock.old clock.new }
+    ensures settled { OnOk result ((i : ℕ) (node : NodeValue) (row : OpenedValue) → slice_get nodes.now i ≡ Some node →
+        slice_get rows.new i ≡ Some row → node.kind ≡ Kind.Memo →
+        (is_clean row.colour ≡ true) × (unpacked row.code ≡ plan_value nodes.now (value_in rows.old) i)) }
+    ensures full { OnErr result (65536 ≤ clock.new.drawn) }
+{
+    for (at, node) in nodes.iter().enumerate() {
+        refresh_memo(nodes, rows, readers, clock, work, at as u32, node)?;
+    }
+    Ok(())
+}
+
+/// Writes a row that is not derived, and marks what reads it. The answer is the write's number. After
+/// `Full` nothing is written.
+pub fn set(
+    nodes: &[PlanNode],
+    rows: &mut [Opened],
+    readers: &Readers,
+    clock: &mut Clock,
+    work: &mut Work,
+    signal: u32,
+    code: Code,
+) -> Result<u32, Full>
+    requires still { IsStill nodes.now rows.old readers.now clock.old }
+    requires work { IsWorkOf nodes.now work.old }
+    requires signal { IsSource nodes.now signal }
+    ensures work { IsWorkOf nodes.now work.new }
+    ensures still { IsStill nodes.now rows.new readers.now clock.new }
+    ensures ticked { OnOk result (IsTicked clock.old clock.new (Fact.Write signal code)) }
+    ensures number { IfOk result (λ number. number ≡ clock.new.drawn) }
+    ensures written { OnOk result ((row : OpenedValue) → slice_get rows.old signal ≡ Some row →
+        IsDarkened (slice_set rows.old signal (written_row row (packed code) (now_of clock.new))) rows.new) }
+    ensures direct { OnOk result ((m : ℕ) (row : OpenedValue) → HasRead readers.now m signal → slice_get rows.new m ≡ Some row → row.colour ≡ Colour.Dirty) }
+    ensures further { OnOk result ((m : ℕ) (row : OpenedValue) → Reached readers.now signal m → slice_get rows.new m ≡ Some row → is_clean row.colour ≡ false) }
+    ensures full { OnErr result (65536 ≤ clock.old.drawn) }
+    ensures rows { OnErr result (rows.new ≡ rows.old) }
+    ensures unchanged { OnErr result (clock.new ≡ clock.old) }
+{
+    let version = clock.tick(Fact::Write { row: signal, code })?;
+    write_row(
+        nodes,
+        rows,
+        readers,
+        &mut work.marking,
+        signal,
+        code,
+        version,
+    );
+    Ok(clock.drawn)
+}

@@ -1,0 +1,18 @@
+//! The work of one caller over the rows of a plan: values that are asked for, writes, and settling.
+#![tactic(auto)]
+
+mod bring;
+mod calls;
+mod clock;
+mod evaluating;
+mod fresh;
+mod moves;
+mod stack;
+mod writes;
+
+pub use bring::{Ended, Gone, bring_up, go_on};
+pub use calls::{Work, get, refresh, set, settle_memos};
+pub use clock::{Clock, Full};
+pub use fresh::fresh_rows;
+pub use moves::{Moved, advance};
+pub use stack::Stack;
