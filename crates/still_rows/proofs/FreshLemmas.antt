@@ -8,6 +8,12 @@ use Rattle.sources.specs.declared.opening.Opened.{Opened}
 use Rattle.sources.specs.Colours.{is_clean}
 use Rattle.sources.specs.Rows.{IsGood, IsDated, IsRoomy}
 use Rattle.still_readers.proofs.Lists.{within_at, at_within, snoc_at, one_at, length_more}
+use Rattle.still_readers.specs.declared.readers.Readers.{Readers}
+use Rattle.still_readers.specs.Readers.{IsReadersOf}
+use Rattle.still_rows.specs.declared.clock.Clock.{Clock}
+use Rattle.still_rows.specs.Clock.{IsClock}
+use Rattle.still_rows.specs.Frames.{AreLawful}
+use Rattle.still_rows.specs.Works.{IsStill}
 use Rattle.still_rows.specs.Fresh.{IsFreshRow, AreFreshRows, fresh_colour}
 
 filter_short : (p : ℕ → Bool) (xs : List ℕ) → length (filter p xs) ≤ length xs
@@ -82,3 +88,18 @@ any_err (Err e) p = p
 pub some_as : {A : Type 0} (o : Option A) (P Q : A → Type 0) → ((x : A) → P x → Q x) → IfSome o P → IfSome o Q
 some_as None P Q f h = tt
 some_as (Some x) P Q f h = f x h
+
+-- rows before anything is written, with the readers of the plan, hold what the calls keep
+pub fresh_still : (nodes : List PlanNode) (rows : List Opened) (readers : Readers) (c : Clock) → AreLawful nodes → AreFreshRows nodes (length nodes) rows → IsReadersOf nodes readers → IsClock c → IsStill nodes rows readers c
+fresh_still nodes rows readers c lawful fresh of_plan clock = record {
+  lawful = lawful;
+  good = fresh_good nodes rows fresh;
+  dated = record {
+    held = (λ i row r. let h = (fresh_dated nodes rows fresh).held i row r in omega arith);
+    recorded = (λ i row r k x e. let h = (fresh_dated nodes rows fresh).recorded i row r k x e in omega arith);
+  };
+  roomy = fresh_roomy nodes rows fresh;
+  of_plan = of_plan;
+  enrolled = record { each = (λ i node row n r d ran k x e. absurd (ran (fresh.each i node row n r).cause)) };
+  ticks = clock;
+}

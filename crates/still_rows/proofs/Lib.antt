@@ -6,3 +6,4 @@ pub mod SinceLemmas
 pub mod WorksLemmas
 pub mod SetLemmas
 pub mod FreshLemmas
+pub mod LawfulLemmas

@@ -1,5 +1,6 @@
 -- What holds of the frame of a node that is brought up to date.
 use Rattle.std.specs.Prelude.{◌≡◌, ◌≢◌, ℕ, ◌<◌, ◌≤◌, Bool, true, false, List, slice_get, length, Some, None, Contains}
+use Rattle.values.specs.declared.expr.Expr.{Expr}
 use Rattle.values.specs.declared.plan.Kind.TheVariants.{Memo}
 use Rattle.values.specs.declared.plan.PlanNode.{PlanNode}
 use Rattle.values.specs.Packing.{IsPacked}
@@ -17,6 +18,10 @@ use Rattle.work_order.specs.declared.frame.Frame.{Frame}
 pub record AreLawful (nodes : List PlanNode) : Type 0 where
   pub few : length nodes ≤ 4096
   pub reads : (row : ℕ) (node : PlanNode) → slice_get nodes row ≡ Some node → (source : ℕ) → Contains (rows_in node.expr) source → MayRead nodes row source
+
+-- the expression names rows before this one alone, and no effect
+pub record NamesLawfully (nodes : List PlanNode) (row : ℕ) (e : Expr) : Type 0 where
+  pub each : (source : ℕ) → Contains (rows_in e) source → MayRead nodes row source
 
 -- the read shows the row as it is, with its value, and the row is clean
 pub record IsConfirmed (rows : List Opened) (node : ℕ) (x : Read) : Type 0 where

@@ -1,5 +1,5 @@
 //! The calls of one caller.
-ghost use Rattle.std.specs.Prelude.{◌≡◌, ◌≢◌, ◌<◌, ◌≤◌, ◌+◌, ◌-◌, length, slice_get, slice_set, Some, IfOk, OnOk, OnErr, true, ◌↔◌, IsTrue, ℕ, false};
+ghost use Rattle.std.specs.Prelude.{◌≡◌, ◌≢◌, ◌<◌, ◌≤◌, ◌+◌, ◌-◌, length, slice_get, slice_set, Some, IfOk, OnOk, OnErr, true, ◌↔◌, IsTrue, ℕ, false, ◌^◌};
 ghost use Rattle.values.specs.declared.plan.PlanNode.{PlanNode as NodeValue};
 ghost use Rattle.values.specs.PlanValues.{plan_value};
 ghost use Rattle.sources.specs.declared.opening.Opened.{Opened as OpenedValue};
@@ -70,7 +70,7 @@ pub fn get(
     clock: &mut Clock,
     work: &mut Work,
     node: u32,
-) -> Result<(Code, u64), Full>
+) -> Result<(Code, u32), Full>
     requires still { IsStill nodes.now rows.old readers.old clock.old }
     requires work { IsWorkOf nodes.now work.old }
     requires within { node < length nodes.now }
@@ -84,7 +84,15 @@ pub fn get(
 {
     refresh(nodes, rows, readers, clock, work, node)?;
     let row = row_at(rows, node);
-    Ok((value_of(row.code), row.version.saturating_sub(clock.base)))
+    Ok((value_of(row.code), number_of(row.version, clock.base)))
+}
+
+/// The number of a version in the phase that began with this count of ticks.
+fn number_of(version: u64, base: u64) -> u32
+    requires { version < base + 2 ^ 32 }
+    ensures { result ≡ version - base }
+{
+    version.saturating_sub(base) as u32
 }
 
 fn refresh_memo(

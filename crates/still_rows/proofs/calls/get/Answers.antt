@@ -1,4 +1,4 @@
-use Rattle.std.proofs.Common.{◌∙◌, ap, sym, ℕ}
+use Rattle.std.proofs.Common.{arith, ◌∙◌, ap, sym, ℕ}
 use Rattle.values.specs.declared.code.Code.{Code}
 use Rattle.sources.proofs.RowLemmas.{clean_at}
 use Rattle.still_rows.proofs.FramesLemmas.{reads_back, are_packed}
@@ -12,3 +12,8 @@ returns-clause-value c =
     let s = c.refresh.ensures.stepped in
     let clean = c.in_ok-refresh.ensures.clean c.row_at-row.result.now c.row_at-row.ensures in
     c.value_of.ensures ∙ sym (clean_at _ _ (reads_back c.args.nodes.now c.requires.still.lawful) s.still.good c.args.node c.row_at-row.result.now c.row_at-row.ensures clean) ∙ ap (λ (f : ℕ → Code). f c.args.node) s.values
+
+pub number_of-requires : goal.number_of-requires
+number_of-requires c =
+    let s = c.refresh.ensures.stepped.still in
+    let d = s.dated.held c.args.node c.row_at-row.result.now c.row_at-row.ensures in let f = s.ticks.few in omega arith
