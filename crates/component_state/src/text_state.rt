@@ -27,6 +27,10 @@ impl TextState<Terminal, Rule, Action> for ComponentState {
         component::production(rule, token)
     }
 
+    fn expansion(rule: Rule, token: Seen) -> &'static [Symbol<Terminal, Rule, Action>] {
+        component::expansion(rule, token)
+    }
+
     fn matches(terminal: Terminal, token: Seen) -> bool {
         component::matches(terminal, token)
     }
