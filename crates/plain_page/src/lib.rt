@@ -3,12 +3,8 @@
 #![tactic(auto)]
 
 mod buffer;
-mod evaluation;
 mod page;
-mod pairs;
 mod pending;
-mod place_values;
-mod rows;
 
 pub use page::{held_page_bytes, page_bytes};
 pub use pending::pending_loads;

@@ -6,14 +6,13 @@ ghost use Rattle.plain_evaluation.specs.Held.{first_held};
 ghost use Rattle.plain_evaluation.specs.Page.{attr_bytes, opening, closing, item_bytes, items_bytes, page_of};
 ghost use Rattle.plain_evaluation.specs.Place.{place_at};
 ghost use Rattle.plain_page.specs.Buffer.{bytes_of};
-ghost use Rattle.plain_page.specs.Seen.{values_seen, view_in};
+ghost use Rattle.plain_values.specs.Seen.{values_seen};
+ghost use Rattle.plain_page.specs.Seen.{view_in};
 
 use crate::buffer::Buffer;
-use crate::evaluation::values_of;
-use crate::place_values::{PlaceValues, ValuePlace};
-use crate::rows::row_at;
 use component_items::{Attr, Component, Item};
 use held_state::Held;
+use plain_values::{PlaceValues, ValuePlace, row_at, values_of};
 use std::alloc::Global;
 use store_fields::Rows;
 use values::{Code, NoMemory, Texts};

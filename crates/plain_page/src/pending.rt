@@ -5,13 +5,12 @@ ghost use Rattle.plain_evaluation.specs.Held.{arrived_held};
 ghost use Rattle.plain_evaluation.specs.Place.{outside};
 ghost use Rattle.plain_evaluation.specs.Scratch.{has_arrived, pending};
 ghost use Rattle.plain_evaluation.specs.Written.{state_of};
-ghost use Rattle.plain_page.specs.Seen.{values_seen};
+ghost use Rattle.plain_values.specs.Seen.{values_seen};
 ghost use Rattle.plain_page.specs.Waiting.{load_waiting, item_waiting, items_waiting};
 
-use crate::evaluation::values_of;
-use crate::place_values::{PlaceValues, ValuePlace};
 use component_items::{Component, Item};
 use held_state::Held;
+use plain_values::{PlaceValues, ValuePlace, values_of};
 use std::alloc::Global;
 use store_fields::Rows;
 use values::NoMemory;

@@ -12,7 +12,7 @@ use Rattle.plain_evaluation.specs.Page.{opening, closing, item_bytes, items_byte
 use Rattle.plain_evaluation.proofs.PageLemmas.{item_bytes-Signal, item_bytes-Memo, item_bytes-Effect, item_bytes-Resource, item_bytes-Load, item_bytes-Store, item_bytes-Cleanup, item_bytes-Area, item_bytes-If, item_bytes-Each, item_bytes-Element, item_bytes-Text, item_bytes-Shown}
 use Rattle.plain_page.specs.Buffer.{bytes_of}
 use Rattle.plain_page.specs.Seen.{view_in}
-use Rattle.plain_page.proofs.PlaceLemmas.{drop_at, ok_then, no_rows_held, rows_as_held}
+use Rattle.plain_values.proofs.PlaceLemmas.{drop_at, ok_then, no_rows_held, rows_as_held}
 use Rattle.plain_page.proofs.page.Writer.+writing.Goals as goal
 
 pub item-returns-in-Signal : goal.item-returns-in-Signal

@@ -5,9 +5,9 @@ use Rattle.store_fields.specs.declared.row.Row.{Row}
 use Rattle.component_items.specs.declared.component.Item.{Item}
 use Rattle.plain_evaluation.specs.Held.{holding_of}
 use Rattle.plain_evaluation.specs.Written.{state_of}
-use Rattle.plain_page.specs.Seen.{values_seen}
+use Rattle.plain_values.specs.Seen.{values_seen}
 use Rattle.plain_page.specs.Waiting.{item_waiting, items_waiting}
-use Rattle.plain_page.proofs.PlaceLemmas.{drop_some, ok_then, no_rows_held, rows_as_held}
+use Rattle.plain_values.proofs.PlaceLemmas.{drop_some, ok_then, no_rows_held, rows_as_held}
 use Rattle.plain_page.proofs.WaitingLemmas.{waiting-Signal, waiting-Memo, waiting-Effect, waiting-Resource, waiting-Load, waiting-Store, waiting-Cleanup, waiting-Area, waiting-If, waiting-Each, waiting-Element, waiting-Text, waiting-Shown}
 use Rattle.plain_page.proofs.pending.Waiting.+waiting.Goals as goal
 

@@ -1,7 +1,7 @@
 use Rattle.std.proofs.Common.{◌≡◌, ◌++◌, drop}
 use Rattle.std.specs.List.{flat_map}
 use Rattle.plain_evaluation.specs.Written.{state_of}
-use Rattle.plain_page.specs.Seen.{values_seen}
+use Rattle.plain_values.specs.Seen.{values_seen}
 use Rattle.plain_page.specs.Waiting.{items_waiting}
 use Rattle.plain_page.proofs.pending.Waiting.+waiting.Given as goal
 

@@ -1,0 +1,3 @@
+pub mod EvaluatedLemmas
+pub mod SameValues
+pub mod PlaceLemmas
