@@ -1,0 +1,8 @@
+//! The graph over the rows of a plan for one caller: phases with their calls, and what is done between them.
+#![tactic(auto)]
+
+mod between;
+mod calls;
+mod graph;
+
+pub use graph::Graph;
