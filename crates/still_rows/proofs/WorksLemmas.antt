@@ -61,6 +61,13 @@ unclean_less [] m y0 y h u c = cc
 unclean_less (r ∷ rs) zero y0 y h u c = let same : r ≡ y0 = cc in let u' : is_clean r.colour ≡ false = rw same u in rw (u', c) (omega arith)
 unclean_less (r ∷ rs) (suc m) y0 y h u c = let rest = unclean_less rs m y0 y h u c in omega arith
 
+-- a row that is not clean is counted
+pub some_unclean : (rows : List Opened) (m : ℕ) (y : Opened) → slice_get rows m ≡ Some y → is_clean y.colour ≡ false → 0 < unclean_count rows
+unfolding unclean_count
+some_unclean [] m y h u = cc
+some_unclean (r ∷ rs) zero y h u = let same : r ≡ y = cc in let u' : is_clean r.colour ≡ false = rw same u in rw u' (omega arith)
+some_unclean (r ∷ rs) (suc m) y h u = let rest = some_unclean rs m y h u in omega arith
+
 -- the work of a frame is bounded
 work_small : (nodes : List PlanNode) (rows : List Opened) (node : PlanNode) (row : Opened) (f : Frame) → IsGood nodes rows → slice_get nodes f.node ≡ Some node → slice_get rows f.node ≡ Some row → IsFrameOf rows node row f → work_left row f + 1 < width nodes
 work_small nodes rows node row f good n r is = by f.due refl f.cleared
