@@ -1,8 +1,7 @@
 //! The graph over the rows of a plan for one caller: phases with their calls, and what is done between them.
 #![tactic(auto)]
 
-mod between;
-mod calls;
 mod graph;
+mod table;
 
 pub use graph::Graph;

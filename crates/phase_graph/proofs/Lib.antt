@@ -1,0 +1,4 @@
+pub mod Blocks
+pub mod Few
+pub mod Starts
+pub mod Changes
