@@ -25,7 +25,8 @@ use work_order::Frame;
 #[derive(Debug, Drop)]
 pub struct Work {
     pub(crate) frames: Stack<Frame>,
-    pub(crate) reads: Reads,
+    /// What the run that is being made has read.
+    pub reads: Reads,
     pub(crate) marking: Marking,
 }
 
