@@ -1,5 +1,5 @@
 -- Numbers that are drawn, and what is noted with them.
-use Rattle.std.specs.Prelude.{◌≡◌, ◌≢◌, ℕ, ◌+◌, ◌<◌, ◌≤◌, ◌^◌, ◌⊎◌, true, false, [], ◌∷◌, ◌++◌, length}
+use Rattle.std.specs.Prelude.{◌≡◌, ◌≢◌, ℕ, ◌+◌, ◌<◌, ◌≤◌, ◌^◌, ◌⊎◌, true, false, [], ◌∷◌, ◌++◌, length, slice_set}
 use Rattle.values.specs.declared.code.Code.{Code}
 use Rattle.values.specs.declared.plan.Fact.{Fact}
 use Rattle.values.specs.declared.plan.Fact.TheVariants.{Change}
@@ -46,6 +46,10 @@ pub record IsNoted (old new : Clock) (fact : Fact) : Type 0 where
   pub in_phase : new.in_phase ≡ old.in_phase
   pub entries : new.entries.list ≡ old.entries.list ++ entry_at old.drawn fact ∷ []
   pub room : room_of new.entries ≡ room_of old.entries
+
+-- the entry at a place says this
+abbrev pub filled : Clock → ℕ → Fact → Clock
+filled c place fact = record c { entries = record c.entries { list = slice_set c.entries.list place (entry_at place fact) } }
 
 -- the version of a memo that ends with this value: a new one, with its entry, exactly where the value differs
 abbrev pub IsVersioned : Clock → Clock → ℕ → Opened → Code → ℕ → Type 0

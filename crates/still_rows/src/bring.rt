@@ -8,7 +8,7 @@ ghost use Rattle.sources.specs.Rows.{IsGood};
 ghost use Rattle.work_order.specs.Order.{first_frame};
 ghost use Rattle.still_rows.specs.Frames.{AreLawful, IsFrame, IsMemo};
 ghost use Rattle.still_rows.specs.Shown.{HasRoom};
-ghost use Rattle.still_rows.specs.Works.{IsStack, IsStill, IsStepped, IsOnward, unclean_count, work_of, EndsAs};
+ghost use Rattle.still_rows.specs.Works.{IsStack, IsStill, IsStepped, IsOnward, unclean_count, HasUncleanMemo, work_of, EndsAs};
 
 use crate::clock::{Clock, Full};
 use crate::moves::{Moved, advance, row_at};
@@ -89,6 +89,7 @@ fn turn(
     ensures onward { OnOk result (IsOnward nodes.now rows.old rows.new _root (frame ∷ frames.old) frames.new) }
     ensures full { OnErr result (65536 ≤ clock.new.drawn) }
     ensures left { OnErr result (0 < unclean_count rows.new) }
+    ensures memo_left { OnErr result (HasUncleanMemo nodes.now rows.new) }
 {
     let gone = go_on(nodes, rows, reads, frame);
     match gone.ended {
@@ -124,6 +125,7 @@ pub fn bring_up(
     ensures clean { OnOk result ((row : OpenedValue) → slice_get rows.new root ≡ Some row → is_clean row.colour ≡ true) }
     ensures full { OnErr result (65536 ≤ clock.new.drawn) }
     ensures left { OnErr result (0 < unclean_count rows.new) }
+    ensures memo_left { OnErr result (HasUncleanMemo nodes.now rows.new) }
 {
     frames.clear();
     frames.push(Frame::new(root, row_at(rows, root).body.cause));

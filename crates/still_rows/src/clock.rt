@@ -2,7 +2,7 @@
 ghost use Rattle.std.specs.Prelude.{◌≡◌, ◌≤◌, ◌<◌, ◌^◌, ◌+◌, ◌++◌, ◌∷◌, [], true, false, length, IfOk, OnErr};
 ghost use Rattle.values.specs.declared.plan.Fact.{Fact as FactValue};
 ghost use Rattle.values.specs.Reserved.{room_of};
-ghost use Rattle.still_rows.specs.Clock.{IsClock, IsTicked, IsNoted, now_of, refused, entry_at};
+ghost use Rattle.still_rows.specs.Clock.{IsClock, IsTicked, IsNoted, now_of, refused, filled, entry_at};
 
 use values::{Fact, Noted, Reserved};
 
@@ -79,6 +79,18 @@ impl Clock {
         let fact = Fact::Disposed { owner };
         self.entries.push(Noted { number, fact });
         number
+    }
+
+    /// The entry of the number `place + 1`, which was drawn before, says this fact from now on.
+    pub fn fill(&mut self, place: u32, fact: Fact)
+        requires clock { IsClock self.old }
+        requires drawn { place < self.old.drawn }
+        requires noted { place < length self.old.entries.list }
+        ensures filled { self.new ≡ filled self.old place fact }
+        ensures clock { IsClock self.new }
+    {
+        let number = place + 1;
+        self.entries.set(place as usize, Noted { number, fact });
     }
 
     fn note(&mut self, fact: Fact)

@@ -19,3 +19,4 @@ pub use fresh::fresh_rows;
 pub use lawful::is_lawful;
 pub use moves::{Moved, advance, row_at};
 pub use stack::Stack;
+pub use writes::{keep, record_run};
