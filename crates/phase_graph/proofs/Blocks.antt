@@ -1,14 +1,14 @@
 -- What was noted behind what stood.
-use Rattle.std.proofs.Common.{◌≡◌, ◌≢◌, ◌⊎◌, inl, inr, ⊎_elim, ℕ, zero, suc, ◌+◌, ◌<◌, ◌≤◌, Bool, true, false, Option, Some, None, List, [], ◌∷◌, ◌++◌, drop, length, slice_get, refl, sym, ap, subst, ◌∙◌, arith}
-use Rattle.std.specs.Prelude.{nat_lt, filter_map, count_by, ◌&&◌}
+use Rattle.std.proofs.Common.{◌≡◌, ◌⊎◌, inl, inr, ⊎_elim, ℕ, zero, suc, ◌+◌, ◌<◌, ◌≤◌, cond, Bool, true, false, Option, Some, None, List, [], ◌∷◌, ◌++◌, drop, length, slice_get, refl, sym, ap, subst, ◌∙◌, arith}
+use Rattle.std.specs.Prelude.{nat_lt, filter_map, ◌&&◌}
 use Rattle.std.specs.List.{last_or, list_all, cons_option}
 use Rattle.std.proofs.lemmas.Bool.Decides.{nat_tests}
 use Rattle.std.proofs.lemmas.List.Elements.{filter_map-append}
+use Rattle.std.proofs.lemmas.List.Sums.{sum_by-append}
 use Rattle.values.specs.declared.plan.Noted.{Noted}
 use Rattle.values.specs.declared.plan.Fact.{Fact}
 use Rattle.run_items.specs.declared.limits.TheConstants.{LAST_NUMBER}
 use Rattle.run_meaning.specs.Words.{In}
-use Rattle.run_meaning.specs.Entries.{is_disposal}
 use Rattle.run_history.specs.Going.{Numbered, all_are, is_edit_by, edits_by}
 use Rattle.run_history.proofs.Lists.{append_nil}
 
@@ -120,10 +120,8 @@ all_from_in test [] each = refl
 all_from_in test (e ∷ es) each = ap (λ (b : Bool). b && list_all (λ (x : Noted). test x.fact) es) (each e (inl refl)) ∙ all_from_in test es (λ d i. each d (inr i))
 
 -- where no more edits are noted, there are as many as before
+pub edits_append : (pass : ℕ) (es block : List Noted) → edits_by pass (es ++ block) ≡ edits_by pass es + edits_by pass block
+edits_append pass es block = sum_by-append (λ (e : Noted). cond (is_edit_by pass e.fact) 1 0) es block
+
 pub edits_more : (pass : ℕ) (es block : List Noted) → edits_by pass block ≡ 0 → edits_by pass (es ++ block) ≡ edits_by pass es
-edits_more pass [] block none = none
-edits_more pass (e ∷ es) block none = by (is_edit_by pass e.fact) refl (edits_more pass es block none)
-  where
-    by : (b : Bool) → is_edit_by pass e.fact ≡ b → edits_by pass (es ++ block) ≡ edits_by pass es → edits_by pass (e ∷ (es ++ block)) ≡ edits_by pass (e ∷ es)
-    by true q r = rw q (omega arith)
-    by false q r = rw q (omega arith)
+edits_more pass es block none = let a = edits_append pass es block in omega arith

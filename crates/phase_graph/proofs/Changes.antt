@@ -1,8 +1,8 @@
 -- A call on the rows that writes nothing: what it notes are changes of memos.
 use Rattle.std.proofs.Common.{◌≡◌, ◌≢◌, ◌⊎◌, inl, inr, ⊎_elim, ℕ, ◌+◌, ◌-◌, ◌≤◌, ◌<◌, zero, suc, cond, Bool, true, false, Option, Some, None, List, [], ◌∷◌, ◌++◌, drop, slice_get, length, length-append, refl, sym, ap, subst, ◌∙◌, arith}
-use Rattle.std.specs.Prelude.{count_by, nat_eq, unwrap_or, filter_map}
-use Rattle.std.specs.List.{last_or}
+use Rattle.std.specs.Prelude.{if◌then◌else◌, count_by, unwrap_or}
 use Rattle.std.specs.Option.{option_or}
+use Rattle.std.proofs.lemmas.List.Sums.{sum_by-cons}
 use Rattle.values.specs.declared.code.Code.{Code}
 use Rattle.values.specs.declared.plan.Kind.{Kind}
 use Rattle.values.specs.declared.plan.Kind.TheVariants as kind
@@ -15,23 +15,22 @@ use Rattle.values.specs.PlanValues.{is_derived, plan_value}
 use Rattle.store_fields.specs.declared.edit.Edit.{Edit}
 use Rattle.sources.specs.declared.opening.Opened.{Opened}
 use Rattle.sources.specs.Colours.{is_clean}
-use Rattle.sources.specs.Rows.{value_in, IsGood}
+use Rattle.sources.specs.Rows.{value_in}
 use Rattle.sources.proofs.RowLemmas.{clean_at}
 use Rattle.still_readers.specs.declared.readers.Readers.{Readers}
 use Rattle.still_readers.proofs.Lists.{at_within, within_at, one_at, either}
 use Rattle.still_rows.specs.declared.clock.Clock.{Clock}
 use Rattle.still_rows.specs.Clock.{entry_at}
-use Rattle.still_rows.specs.Frames.{AreLawful}
-use Rattle.still_rows.specs.Since.{IsNews, IsSince, IsChanged, IsTouched}
+use Rattle.still_rows.specs.Since.{IsNews, IsChanged}
 use Rattle.still_rows.specs.Works.{IsStill, IsStepped, unclean_count}
 use Rattle.still_rows.proofs.FramesLemmas.{reads_back}
 use Rattle.run_meaning.specs.Words.{In}
-use Rattle.run_meaning.specs.Opened.{IsKind}
-use Rattle.run_meaning.specs.Entries.{written_of, changed_of, ran_of, disposed_in, fact_at, last_ran}
+use Rattle.run_meaning.specs.Opened.{IsKind, opening_code}
+use Rattle.run_meaning.specs.Entries.{written_of, changed_of, ran_of, disposed_in, fact_at}
 use Rattle.run_meaning.specs.Phase.{IsOfPlan}
 use Rattle.run_meaning.specs.Told.{IsCurrent}
 use Rattle.run_meaning.specs.Merge.{changed_to, DiffersFrom, AllDiffer}
-use Rattle.run_history.specs.Going.{Start, Going, opened_at, Numbered, all_are, new_value_of, latest_code, plain_code, shown_number, last_value, IsDead, is_edit_by, edits_by, EntryFits, Goes, writes_nothing, derived_of}
+use Rattle.run_history.specs.Going.{Start, opened_at, Numbered, all_are, new_value_of, latest_code, plain_code, shown_number, last_value, IsDead, edits_by, EntryFits, Goes, writes_nothing, derived_of}
 use Rattle.run_history.specs.Calls.{is_change}
 use Rattle.run_history.proofs.Lists.{in_append, in_right, append_nil, append_assoc'}
 use Rattle.run_history.proofs.Cut.{is_yes, is_no, fact_of}
@@ -39,12 +38,15 @@ use Rattle.run_history.proofs.Journal.{numbered_grows}
 use Rattle.run_history.proofs.Facts.{changes_no_owner, changes_no_edit}
 use Rattle.run_history.proofs.Steps.{plain_same}
 use Rattle.phase_graph.specs.Table.{state_of}
-use Rattle.phase_graph.specs.Way.{Shows, ShowsAs, IsOnWay}
+use Rattle.phase_graph.specs.Way.{ShowsAs, IsOnWay}
 use Rattle.phase_graph.proofs.Blocks.{front_and_rest, in_rest, rest_in, rest_at, none_in, numbered_block, numbered_append, last_same, last_is, all_from_in, edits_more}
-use Rattle.phase_graph.proofs.Few.{drawn_few}
-use Rattle.phase_graph.proofs.Starts.{at_clock, plain_is, current_more, dead_more, dead_same}
+use Rattle.phase_graph.proofs.Tables.{drawn_few}
+use Rattle.phase_graph.proofs.Starts.{at_clock, plain_is, current_more, dead_more, dead_same, shows_on}
 
 -- ---- how many rows are not clean
+
+none_more : (x a b c : ℕ) → x ≡ 0 → a ≤ b → c ≡ 0 + b → x + a ≤ c
+none_more x a b c none l e = omega arith
 
 -- no more rows are unclean than are derived
 pub unclean_few : (nodes : List PlanNode) (rows : List Opened) → length rows ≡ length nodes → ((i : ℕ) (node : PlanNode) (row : Opened) → slice_get nodes i ≡ Some node → slice_get rows i ≡ Some row → is_derived node.kind ≡ false → is_clean row.colour ≡ true) → unclean_count rows ≤ count_by (λ n. is_derived n.kind) nodes
@@ -52,18 +54,30 @@ unfolding unclean_count
 unclean_few [] [] e clean = omega arith
 unclean_few [] (r ∷ rs) e clean = absurd (omega arith)
 unclean_few (n ∷ ns) [] e clean = absurd (omega arith)
-unclean_few (n ∷ ns) (r ∷ rs) e clean = by (is_derived n.kind) refl
+unclean_few (n ∷ ns) (r ∷ rs) e clean = by (is_derived n.kind) refl (unclean_few ns rs (omega arith) (λ i node row. clean (suc i) node row))
   where
-    rest : unclean_count rs ≤ count_by (λ m. is_derived m.kind) ns
-    rest = unclean_few ns rs (omega arith) (λ i node row. clean (suc i) node row)
+    counted : count_by (λ m. is_derived m.kind) (n ∷ ns) ≡ cond (is_derived n.kind) 1 0 + count_by (λ m. is_derived m.kind) ns
+    counted = sum_by-cons (λ (m : PlanNode). cond (is_derived m.kind) 1 0) n ns
 
-    by : (d : Bool) → is_derived n.kind ≡ d → cond (is_clean r.colour) 0 1 + unclean_count rs ≤ count_by (λ m. is_derived m.kind) (n ∷ ns)
-    by true d = let l = rest in let small : cond (is_clean r.colour) 0 1 ≤ 1 = one_most (is_clean r.colour) in rw d (omega arith)
-      where
-        one_most : (b : Bool) → cond b 0 1 ≤ 1
-        one_most true = omega arith
-        one_most false = omega arith
-    by false d = let l = rest in rw (d, clean 0 n r refl refl d) (omega arith)
+    one_most : (b : Bool) → (if b then 0 else 1) ≤ 1
+    one_most true = omega arith
+    one_most false = omega arith
+
+    by : (d : Bool) → is_derived n.kind ≡ d → unclean_count rs ≤ count_by (λ m. is_derived m.kind) ns → (if is_clean r.colour then 0 else 1) + unclean_count rs ≤ count_by (λ m. is_derived m.kind) (n ∷ ns)
+    by true d rest = let small = one_most (is_clean r.colour) in let c : count_by (λ m. is_derived m.kind) (n ∷ ns) ≡ 1 + count_by (λ m. is_derived m.kind) ns = counted ∙ ap (λ (b : Bool). cond b 1 0 + count_by (λ m. is_derived m.kind) ns) d in omega arith
+    by false d rest =
+        let none : (if is_clean r.colour then 0 else 1) ≡ 0 = ap (λ (b : Bool). if b then 0 else 1) (clean zero n r refl refl d) in
+        let c : count_by (λ m. is_derived m.kind) (n ∷ ns) ≡ 0 + count_by (λ m. is_derived m.kind) ns = counted ∙ ap (λ (b : Bool). cond b 1 0 + count_by (λ m. is_derived m.kind) ns) d in
+        none_more (if is_clean r.colour then 0 else 1) (unclean_count rs) (count_by (λ m. is_derived m.kind) ns) (count_by (λ m. is_derived m.kind) (n ∷ ns)) none rest c
+
+pub unclean_most : (rows : List Opened) → unclean_count rows ≤ length rows
+unfolding unclean_count
+unclean_most [] = omega arith
+unclean_most (r ∷ rs) = by (is_clean r.colour) (unclean_most rs)
+  where
+    by : (b : Bool) → unclean_count rs ≤ length rs → (if b then 0 else 1) + unclean_count rs ≤ length (r ∷ rs)
+    by true rest = omega arith
+    by false rest = omega arith
 
 -- ---- facts of changes
 
@@ -107,12 +121,13 @@ module _ (s : Start) (es : List Noted) (Num : ℕ → ℕ → Type 0) (one : (r 
   pub all_differ : (done rest : List Noted) (low high : ℕ) → ((d : Noted) → In d done → IsNewChange s es Num d × (d.number ≤ low)) → ((e : Noted) → In e rest → IsNewChange s es Num e) → Numbered low rest high → AllDiffer (opened_at s) (es ++ done) rest
   all_differ done [] low high before after numbers = tt
   all_differ done (e ∷ rest) low high before after numbers =
-      let q = after e (inl refl) in
-      (subst (DiffersFrom (opened_at s) (es ++ done)) (sym q.is) (q.memo, (λ same. q.other (sym (stays q.row q.number) ∙ same))),
-      subst (λ (t : List Noted). AllDiffer (opened_at s) t rest) (sym (append_assoc' es done (e ∷ []))) (all_differ (done ++ e ∷ []) rest e.number high next (λ d i. after d (inr i)) numbers.3))
+      let q = after e (inl refl) in (
+        subst (DiffersFrom (opened_at s) (es ++ done)) (sym q.is) (q.memo, (λ same. q.other (sym (stays q.row q.number) ∙ same))),
+        subst (λ (t : List Noted). AllDiffer (opened_at s) t rest) (sym (append_assoc' es done (e ∷ []))) (all_differ (done ++ e ∷ []) rest e.number high next (λ d i. after d (inr i)) numbers.3),
+      )
     where
       stays : (n : ℕ) → Num n e.number → changed_to (opened_at s) n (es ++ done) ≡ changed_to (opened_at s) n es
-      stays n at = ap (λ (o : Option Code). unwrap_or o _) (last_same (λ d. changed_of n d.fact) es done (λ d i. untouched done low n before (λ k num. let same = one n k e.number num at in let l = numbers.0 in omega arith) d i))
+      stays n at = ap (λ (o : Option Code). unwrap_or o (opening_code (opened_at s) n)) (last_same (λ d. changed_of n d.fact) es done (λ d i. untouched done low n before (λ k num. let same = one n k e.number num at in let l = numbers.0 in omega arith) d i))
 
       next : (d : Noted) → In d (done ++ e ∷ []) → IsNewChange s es Num d × (d.number ≤ e.number)
       next d i = ⊎_elim
@@ -123,9 +138,6 @@ module _ (s : Start) (es : List Noted) (Num : ℕ → ℕ → Type 0) (one : (r 
 -- ---- the call
 
 module _ (s : Start) (rows rows' : List Opened) (readers readers' : Readers) (c c' : Clock) (live : List Bool) (edits : List (List Edit)) (room : ℕ) (still : IsStill s.plan.nodes rows readers c) (step : IsStepped s.plan.nodes rows rows' readers readers' c c') (way : IsOnWay s (at_clock c) (state_of s.plan rows live c edits room)) where
-  abbrev es : List Noted
-  es = c.entries.list
-
   abbrev pub block : List Noted
   block = drop (length c.entries.list) c'.entries.list
 
@@ -245,7 +257,7 @@ module _ (s : Start) (rows rows' : List Opened) (readers readers' : Readers) (c 
   no_runs n e i = ap (λ (z : Noted). ran_of n z.fact) ((news_of e i).2).entry
 
   same_latest : (n : ℕ) → latest_code s (c.entries.list ++ block) n ≡ latest_code s c.entries.list n
-  same_latest n = ap (λ (o : Option Code). unwrap_or o _) (last_same (λ e. written_of n e.fact) c.entries.list block (no_writes n))
+  same_latest n = ap (λ (o : Option Code). unwrap_or o (opening_code (opened_at s) n)) (last_same (λ e. written_of n e.fact) c.entries.list block (no_writes n))
 
   same_runs : (n : ℕ) → last_value s (c.entries.list ++ block) n ≡ last_value s c.entries.list n
   same_runs n = ap (λ (o : Option Code). option_or o (s.ran n)) (last_same (λ e. ran_of n e.fact) c.entries.list block (no_runs n))
@@ -262,7 +274,7 @@ module _ (s : Start) (rows rows' : List Opened) (readers readers' : Readers) (c 
       elsewhere e i = elim (of_row n old new o w e i) [ inl h ↦ h | inr h ↦ absurd (h.other (ap unpacked code)) ]
 
       same_changes : changed_to (opened_at s) n (c.entries.list ++ block) ≡ changed_to (opened_at s) n c.entries.list
-      same_changes = ap (λ (x : Option Code). unwrap_or x _) (last_same (λ e. changed_of n e.fact) c.entries.list block (λ e i. (elsewhere e i).changes))
+      same_changes = ap (λ (x : Option Code). unwrap_or x (opening_code (opened_at s) n)) (last_same (λ e. changed_of n e.fact) c.entries.list block (λ e i. (elsewhere e i).changes))
 
       same_number : shown_number (c.entries.list ++ block) n ≡ shown_number c.entries.list n
       same_number = ap (λ (x : Option ℕ). unwrap_or x 0) (last_same (λ e. new_value_of n e.fact e.number) c.entries.list block (λ e i. (elsewhere e i).numbers))
@@ -270,26 +282,19 @@ module _ (s : Start) (rows rows' : List Opened) (readers readers' : Readers) (c 
       same_version : new.version - c'.base ≡ old.version - c.base
       same_version = (λ i. version i - same_base i)
 
-      kept_shows : (before after : Code) → after ≡ before → Shows c.entries.list c.base n old before → Shows (c.entries.list ++ block) c'.base n new after
-      kept_shows before after same h = record { value = ap unpacked code ∙ h.value ∙ sym same; number = same_version ∙ h.number ∙ sym same_number }
-
-      kept_as : (k : Kind) → (k ≡ kind.Effect → new ≡ old) → ShowsAs k s c.entries.list c.base n old → ShowsAs k s (c.entries.list ++ block) c'.base n new
-      kept_as kind.Signal eff h = kept_shows _ _ (same_latest n) h
-      kept_as kind.Field eff h = kept_shows _ _ (same_latest n) h
-      kept_as kind.Load eff h = kept_shows _ _ (same_latest n) h
-      kept_as kind.Memo eff h = kept_shows _ _ same_changes h
-      kept_as kind.Effect eff h = (λ ran. same_runs n ∙ h (λ none. ran (ap (λ (z : Opened). z.body.cause) (eff refl) ∙ none)) ∙ ap (λ (z : Opened). Some (unpacked z.code)) (sym (eff refl)))
+      kept_as : ShowsAs node.kind s (c.entries.list ++ block) c'.base n new
+      kept_as = shows_on s c.entries.list (c.entries.list ++ block) c.base c'.base n old new code same_version (same_latest n) same_changes same_number (same_runs n) node.kind (λ k. ap (λ (z : Opened). z.body.cause) (effect_stays n old new node o w at k)) (way.shown n node old at o)
 
     -- a row with another value
     module _ (h : IsChanged c c' n old new) where
-      entry : Noted
+      abbrev entry : Noted
       entry = entry_at h.place (fact.Change n (unpacked new.code))
 
       there : In entry block
       there = rest_in (length c.entries.list) c'.entries.list h.place entry (let a = still.ticks.short way.is_open in let b = h.from_on in omega arith) (h.noted way.is_open)
 
       new_changes : changed_to (opened_at s) n (c.entries.list ++ block) ≡ unpacked new.code
-      new_changes = ap (λ (x : Option Code). unwrap_or x _) (last_is (λ e. changed_of n e.fact) c.entries.list block entry (unpacked new.code) there (change_here n (unpacked new.code)) all)
+      new_changes = ap (λ (x : Option Code). unwrap_or x (opening_code (opened_at s) n)) (last_is (λ e. changed_of n e.fact) c.entries.list block entry (unpacked new.code) there (change_here n (unpacked new.code)) all)
         where
           all : (e : Noted) → In e block → (changed_of n e.fact ≡ None) ⊎ (changed_of n e.fact ≡ Some (unpacked new.code))
           all e i = elim (of_row n old new o w e i) [ inl q ↦ inl q.changes | inr q ↦ inr (ap (changed_of n) q.is ∙ change_here n (unpacked new.code)) ]
@@ -319,7 +324,7 @@ module _ (s : Start) (rows rows' : List Opened) (readers readers' : Readers) (c 
 
     shown_at : ShowsAs node.kind s (c.entries.list ++ block) c'.base n new
     shown_at = elim (step.since.each n old new o w).value [
-      | inl h ↦ kept_as h.0 h.1 node.kind (effect_stays n old new node o w at) (way.shown n node old at o)
+      | inl h ↦ kept_as h.0 h.1
       | inr h ↦ new_as h node.kind (is_memo n old new node o w at h.other)
     ]
 

@@ -1,4 +1,12 @@
 pub mod Blocks
-pub mod Few
 pub mod Starts
+pub mod Tables
 pub mod Changes
+pub mod Writes
+pub mod Stops
+pub mod Steps
+pub mod Areas
+pub mod First
+pub mod Views
+pub mod Lists
+pub mod Openings

@@ -1,7 +1,5 @@
 -- A phase on its way, from where the graph stands.
-use Rattle.std.proofs.Common.{◌≡◌, ◌≢◌, ◌⊎◌, inl, inr, ⊎_elim, ℕ, ◌+◌, ◌-◌, ◌≤◌, ◌<◌, List, [], ◌∷◌, ◌++◌, Some, slice_get, length, refl, sym, ap, subst, ◌∙◌, arith, Bool, true, false}
-use Rattle.std.specs.Prelude.{count_by, unwrap_or, filter_map}
-use Rattle.std.specs.List.{last_or}
+use Rattle.std.proofs.Common.{◌≡◌, inl, inr, ℕ, ◌-◌, List, [], ◌++◌, Some, slice_get, length, refl, sym, ap, subst, ◌∙◌, arith, false}
 use Rattle.values.specs.declared.code.Code.{Code}
 use Rattle.values.specs.declared.plan.Kind.{Kind}
 use Rattle.values.specs.declared.plan.Kind.TheVariants as kind
@@ -9,20 +7,19 @@ use Rattle.values.specs.declared.plan.Noted.{Noted}
 use Rattle.values.specs.declared.plan.Plan.{Plan}
 use Rattle.values.specs.declared.plan.PlanNode.{PlanNode}
 use Rattle.values.specs.Packing.{unpacked}
-use Rattle.values.specs.PlanValues.{is_derived, plan_value, HaveSameSources}
+use Rattle.values.specs.PlanValues.{is_derived, plan_value}
 use Rattle.values.proofs.PlanValuesLemmas.{plan_value-by_sources}
-use Rattle.store_fields.specs.declared.edit.Edit.{Edit}
 use Rattle.sources.specs.declared.opening.Opened.{Opened}
 use Rattle.sources.specs.Rows.{value_in}
 use Rattle.sources.proofs.RowLemmas.{code_in-at}
 use Rattle.still_readers.proofs.Lists.{at_within, within_at}
 use Rattle.still_rows.specs.declared.clock.Clock.{Clock}
 use Rattle.run_meaning.specs.Words.{In}
-use Rattle.run_meaning.specs.Opened.{opening_code, dead_of}
-use Rattle.run_meaning.specs.Entries.{disposed_in, fact_at}
+use Rattle.run_meaning.specs.Entries.{disposed_in}
 use Rattle.run_meaning.specs.Told.{IsCurrent}
-use Rattle.run_history.specs.Going.{Start, Going, opened_at, latest_code, plain_code, IsDead}
-use Rattle.run_history.proofs.Lists.{in_append, in_left, append_nil}
+use Rattle.run_meaning.specs.Merge.{changed_to}
+use Rattle.run_history.specs.Going.{Start, Going, opened_at, latest_code, plain_code, shown_number, last_value, IsDead}
+use Rattle.run_history.proofs.Lists.{in_left, append_nil}
 use Rattle.run_history.proofs.Cut.{fact_at_more}
 use Rattle.run_history.proofs.Disposals.{disposed_append}
 use Rattle.phase_graph.specs.Graph.{GraphState}
@@ -77,3 +74,19 @@ dead_more s es block n (inr h) = inr (subst (In n) (sym (disposed_append es bloc
 pub dead_same : (s : Start) (es block : List Noted) (n : ℕ) → disposed_in block ≡ [] → IsDead s (es ++ block) n → IsDead s es n
 dead_same s es block n none (inl h) = inl h
 dead_same s es block n none (inr h) = inr (subst (In n) (disposed_append es block ∙ (ap (λ (t : List ℕ). disposed_in es ++ t) none ∙ append_nil (disposed_in es))) h)
+
+-- ---- what a row shows
+
+-- a row with the value, the version and the body that it had, where the entries say the same of it
+pub shows_on : (s : Start) (es es' : List Noted) (base base' n : ℕ) (old new : Opened) → new.code ≡ old.code → new.version - base' ≡ old.version - base → latest_code s es' n ≡ latest_code s es n → changed_to (opened_at s) n es' ≡ changed_to (opened_at s) n es → shown_number es' n ≡ shown_number es n → last_value s es' n ≡ last_value s es n → (k : Kind) → (k ≡ kind.Effect → new.body.cause ≡ old.body.cause) → ShowsAs k s es base n old → ShowsAs k s es' base' n new
+shows_on s es es' base base' n old new code version written change number last k cause h = by k cause h
+  where
+    kept : (before after : Code) → after ≡ before → Shows es base n old before → Shows es' base' n new after
+    kept before after same w = record { value = ap unpacked code ∙ w.value ∙ sym same; number = version ∙ w.number ∙ sym number }
+
+    by : (k : Kind) → (k ≡ kind.Effect → new.body.cause ≡ old.body.cause) → ShowsAs k s es base n old → ShowsAs k s es' base' n new
+    by kind.Signal same w = kept (latest_code s es n) (latest_code s es' n) written w
+    by kind.Field same w = kept (latest_code s es n) (latest_code s es' n) written w
+    by kind.Load same w = kept (latest_code s es n) (latest_code s es' n) written w
+    by kind.Memo same w = kept (changed_to (opened_at s) n es) (changed_to (opened_at s) n es') change w
+    by kind.Effect same w = (λ ran. last ∙ w (λ none. ran (same refl ∙ none)) ∙ ap (λ (z : ℕ). Some (unpacked z)) (sym code))

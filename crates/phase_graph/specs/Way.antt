@@ -9,7 +9,6 @@ use Rattle.values.specs.Packing.{unpacked}
 use Rattle.store_fields.specs.declared.edit.Edit.{Edit}
 use Rattle.script_items.specs.Script.{numbered}
 use Rattle.sources.specs.declared.opening.Opened as rows
-use Rattle.sources.specs.Rows.{value_in}
 use Rattle.run_meaning.specs.Merge.{changed_to}
 use Rattle.run_meaning.specs.Told.{IsCurrent}
 use Rattle.run_history.specs.Going.{Start, Going, opened_at, Numbered, latest_code, shown_number, last_value, IsDead, edits_by}

@@ -1,7 +1,13 @@
 //! The graph over the rows of a plan for one caller: phases with their calls, and what is done between them.
 #![tactic(auto)]
 
+mod between;
+mod calls;
+mod getting;
 mod graph;
+mod making;
+mod phases;
 mod table;
+mod writing;
 
 pub use graph::Graph;
