@@ -7,7 +7,7 @@ use Rattle.values.specs.declared.plan.PlanOwner.{PlanOwner}
 use Rattle.values.specs.Plan.{IsLawful}
 use Rattle.still_readers.proofs.Lists.{at_within, within_at, snoc_at, at_front, at_last, length_more}
 use Rattle.run_history.proofs.Lists.{append_nil, append_assoc'}
-use Rattle.run_history.proofs.Cut.{is_no}
+use Rattle.run_history.proofs.Cut.{is_yes, is_no}
 use Rattle.run_meaning.specs.Opened.{around_of, around_from}
 use Rattle.phase_graph.specs.Table.{is_within, AreOwners}
 
@@ -102,3 +102,19 @@ below_bound os area below (suc bound) n o l a at = ⊎_elim
 
 pub within_below : (os : List PlanOwner) (area n : ℕ) (o : PlanOwner) → AreBelow os → n < area → slice_get os n ≡ Some o → is_within os area n ≡ false
 within_below os area n o below l at = below_bound os area below (suc n) n o (omega arith) l at
+
+-- an owner is in its own area
+pub within_own : (os : List PlanOwner) (n : ℕ) → AreBelow os → n < length os → is_within os n n ≡ true
+within_own os n below l =
+    let o = within_at os n l in
+    ⊎_elim (λ (none : o.0.parent ≡ None). within_alone os n n o.0 below o.1 none ∙ is_yes n n refl)
+    (λ (some : (k : ℕ) × (o.0.parent ≡ Some k)). within_parent os n n some.0 o.0 below o.1 some.1 ∙ ap (λ (b : Bool). b || is_within os n some.0) (is_yes n n refl))
+    (parent_or_none o.0.parent)
+
+-- another that has no parent is not
+pub within_none : (os : List PlanOwner) (area n : ℕ) (o : PlanOwner) → AreBelow os → slice_get os n ≡ Some o → o.parent ≡ None → (area ≡ n → ⊥) → is_within os area n ≡ false
+within_none os area n o below at none other = within_alone os area n o below at none ∙ is_no area n other
+
+-- and another is where its parent is
+pub within_other : (os : List PlanOwner) (area n parent : ℕ) (o : PlanOwner) → AreBelow os → slice_get os n ≡ Some o → o.parent ≡ Some parent → (area ≡ n → ⊥) → is_within os area n ≡ is_within os area parent
+within_other os area n parent o below at is other = within_parent os area n parent o below at is ∙ ap (λ (b : Bool). b || is_within os area parent) (is_no area n other)

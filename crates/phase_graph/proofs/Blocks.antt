@@ -10,7 +10,8 @@ use Rattle.values.specs.declared.plan.Fact.{Fact}
 use Rattle.run_items.specs.declared.limits.TheConstants.{LAST_NUMBER}
 use Rattle.run_meaning.specs.Words.{In}
 use Rattle.run_history.specs.Going.{Numbered, all_are, is_edit_by, edits_by}
-use Rattle.run_history.proofs.Lists.{append_nil}
+use Rattle.run_history.proofs.Lists.{in_append, append_nil}
+use Rattle.run_history.proofs.Disposals.{in_all}
 
 -- a list that begins with another is that one and the rest
 pub front_and_rest : {A : Type 0} (xs ys : List A) → ((k : ℕ) (x : A) → slice_get xs k ≡ Some x → slice_get ys k ≡ Some x) → ys ≡ xs ++ drop (length xs) ys
@@ -125,3 +126,6 @@ edits_append pass es block = sum_by-append (λ (e : Noted). cond (is_edit_by pas
 
 pub edits_more : (pass : ℕ) (es block : List Noted) → edits_by pass block ≡ 0 → edits_by pass (es ++ block) ≡ edits_by pass es
 edits_more pass es block none = let a = edits_append pass es block in omega arith
+
+pub all_append : (test : Fact → Bool) (xs ys : List Noted) → all_are test xs ≡ true → all_are test ys ≡ true → all_are test (xs ++ ys) ≡ true
+all_append test xs ys a b = all_from_in test (xs ++ ys) (λ e i. ⊎_elim (λ (x : In e xs). in_all test xs e a x) (λ (y : In e ys). in_all test ys e b y) (in_append xs ys e i))

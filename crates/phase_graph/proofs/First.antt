@@ -106,7 +106,7 @@ made_table t codes lawful owners rows fits base drawn closed full = record {
   });
   early = (λ p. absurd (not_both t.clock.in_phase p closed));
   ticks = omega arith;
-  paired = rows.good.paired;
+  good = rows.good;
   fits = fits;
   owners = owners;
   is_full = subst (λ (f : Option ℕ). IsFullAt f t.clock.drawn) (sym full) tt;

@@ -10,3 +10,7 @@ pub mod First
 pub mod Views
 pub mod Lists
 pub mod Openings
+pub mod Quiet
+pub mod Turns
+pub mod Disposing
+pub mod EditLemmas

@@ -73,8 +73,8 @@ pub set_ok : (t t' : Table) (pass signal owner number : ℕ) (code : Code) → I
 set_ok t t' pass signal owner number code table row has w = makes t t' pass (set signal code (Ok number)) (λ s edits room way.
     let node = some_and (slice_get t.plan.nodes signal) _ row in
     let start = with_plan s t.plan in
-    let goes = writes.goes start t.rows.items t'.rows.items t.clock t'.clock t.live.items edits room signal code node.0 node.1 node.2 table.paired w.undone w.ticked w.written way in
-    let on = writes.on_way start t.rows.items t'.rows.items t.clock t'.clock t.live.items edits room signal code node.0 node.1 node.2 table.paired w.undone w.ticked w.written way in
+    let goes = writes.goes start t.rows.items t'.rows.items t.clock t'.clock t.live.items edits room signal code node.0 node.1 node.2 table.good.paired w.undone w.ticked w.written way in
+    let on = writes.on_way start t.rows.items t'.rows.items t.clock t'.clock t.live.items edits room signal code node.0 node.1 node.2 table.good.paired w.undone w.ticked w.written way in
     let same : number ≡ t.clock.drawn + 1 = w.drawn ∙ w.ticked.drawn in (
       note (t.clock.drawn + 1) (fact.Write signal code) ∷ [],
       at_clock t'.clock,
@@ -214,7 +214,7 @@ all_settled old new (Ok u) table few stirred full settled = settled
 all_settled old new (Err e) table few stirred full settled =
     let a = stirred.step.spent in
     let b = unclean_all old.rows.items in
-    let c = table.paired in
+    let c = table.good.paired in
     let d = table.lawful.few_nodes in
     absurd (omega arith)
   where

@@ -9,6 +9,7 @@ use Rattle.values.specs.declared.plan.PlanNode.{PlanNode}
 use Rattle.values.specs.Packing.{unpacked}
 use Rattle.values.specs.Plan.{IsLawful}
 use Rattle.sources.specs.declared.opening.Opened.{Opened}
+use Rattle.sources.specs.Rows.{IsGood}
 use Rattle.still_readers.specs.declared.readers.Readers.{Readers}
 use Rattle.still_readers.proofs.Lists.{within_at}
 use Rattle.still_rows.specs.declared.calls.Work.{Work}
@@ -109,7 +110,7 @@ module _ (t t' : Table) (table : IsTable t) (st : IsStirred t t') where
     still = (λ b. subst (λ (q : Plan). IsStill q.nodes t'.rows.items t'.readers t'.clock) (sym st.plan) st.step.still);
     early = (λ p. let b = st.step.since.base in let e = table.early (sym st.step.since.in_phase ∙ p) in omega arith);
     ticks = (let b = st.step.since.base in let e = table.ticks in omega arith);
-    paired = (let a = st.step.since.paired in let b = table.paired in a ∙ b ∙ ap (λ (q : Plan). length q.nodes) (sym st.plan));
+    good = subst (λ (q : Plan). IsGood q.nodes t'.rows.items) (sym st.plan) st.step.still.good;
     fits = subst (λ (q : Plan). IsWorkOf q.nodes t'.work) (sym st.plan) st.fits;
     owners = ap (λ v. length v.items) st.live ∙ table.owners ∙ ap (λ (q : Plan). length q.owners) (sym st.plan);
     is_full = subst (λ (f : Option ℕ). IsFullAt f t'.clock.drawn) (sym st.full) (full_later t.full t.clock.drawn t'.clock.drawn st.step.since.drawn table.is_full);
@@ -129,7 +130,7 @@ module _ (t t' : Table) (table : IsTable t) (is_open : t.clock.in_phase ≡ true
     still = (λ b. subst (λ (q : Plan). IsStill q.nodes t'.rows.items t'.readers t'.clock) (sym w.plan) w.still);
     early = (λ p. let b = w.ticked.base in let e = table.early is_open in omega arith);
     ticks = (let b = w.ticked.base in let e = table.ticks in omega arith);
-    paired = w.still.good.paired ∙ ap (λ (q : Plan). length q.nodes) (sym w.plan);
+    good = subst (λ (q : Plan). IsGood q.nodes t'.rows.items) (sym w.plan) w.still.good;
     fits = subst (λ (q : Plan). IsWorkOf q.nodes t'.work) (sym w.plan) w.fits;
     owners = ap (λ v. length v.items) w.live ∙ table.owners ∙ ap (λ (q : Plan). length q.owners) (sym w.plan);
     is_full = subst (λ (f : Option ℕ). IsFullAt f t'.clock.drawn) (sym w.full) (full_later t.full t.clock.drawn t'.clock.drawn (let d = w.ticked.drawn in omega arith) table.is_full);
@@ -150,7 +151,7 @@ module _ (t t' : Table) (table : IsTable t) (b : IsAsBefore t t') where
         (subst (λ (q : Clock). IsStill t.plan.nodes t.rows.items t.readers q) (sym b.clock) (table.still (let e = ap (λ (q : Clock). q.base) b.clock in omega arith))))));
     early = (λ p. let e = ap (λ (q : Clock). q.base) b.clock in let h = table.early (ap (λ (q : Clock). q.in_phase) (sym b.clock) ∙ p) in omega arith);
     ticks = (let e = ap (λ (q : Clock). q.base) b.clock in let h = table.ticks in omega arith);
-    paired = ap length b.rows ∙ table.paired ∙ ap (λ (q : Plan). length q.nodes) (sym b.plan);
+    good = subst (λ (q : Plan). IsGood q.nodes t'.rows.items) (sym b.plan) (subst (IsGood t.plan.nodes) (sym b.rows) table.good);
     fits = subst (λ (q : Plan). IsWorkOf q.nodes t'.work) (sym b.plan) b.fits;
     owners = ap (λ v. length v.items) b.live ∙ table.owners ∙ ap (λ (q : Plan). length q.owners) (sym b.plan);
     is_full = subst (λ (f : Option ℕ). IsFullAt f t'.clock.drawn) (sym b.full) (subst (λ (q : Clock). IsFullAt t.full q.drawn) (sym b.clock) table.is_full);

@@ -1,10 +1,12 @@
 -- What is seen of a graph.
-use Rattle.std.proofs.Common.{◌≡◌, ℕ, ◌+◌, ◌^◌, ◌<◌, ◌≤◌, Bool, true, false, Some, List, [], slice_get, length, sym, ap, subst, ◌∙◌, arith}
-use Rattle.std.specs.Prelude.{if◌then◌else◌}
+use Rattle.std.proofs.Common.{◌≡◌, ℕ, ◌+◌, ◌^◌, ◌<◌, ◌≤◌, Bool, true, false, Some, List, [], slice_get, length, sym, ap, subst, ◌∙◌, arith, Option, None, get_or, ◌≢◌, refl}
+use Rattle.std.specs.Prelude.{if◌then◌else◌, IfSome, IfNone, option_map}
+use Rattle.std.proofs.lemmas.Option.{slice_get_read}
+use Rattle.values.specs.declared.code.Code.{Code}
 use Rattle.values.specs.declared.plan.Kind.TheVariants as kind
 use Rattle.values.specs.declared.plan.Noted.{Noted}
 use Rattle.values.specs.declared.plan.PlanNode.{PlanNode}
-use Rattle.values.specs.Packing.{unpacked}
+use Rattle.values.specs.Packing.{packed, unpacked, IsValue, IsPacked}
 use Rattle.values.specs.PlanValues.{is_derived, plan_value}
 use Rattle.store_fields.specs.declared.edit.Edit.{Edit}
 use Rattle.sources.specs.declared.opening.Opened.{Opened}
@@ -39,7 +41,7 @@ module _ (x : GraphState) (t t' : Table) (lists : List (List Edit)) (room : ℕ)
       ticks = settled.stirred.step.since.drawn
 
       more : t'.clock.drawn ≤ t.clock.drawn + length t.plan.nodes
-      more = let a = settled.stirred.step.spent in let b = unclean_most t.rows.items in let c = table.paired in omega arith
+      more = let a = settled.stirred.step.spent in let b = unclean_most t.rows.items in let c = table.good.paired in omega arith
 
   pub settled_memos : (n : ℕ) (node : PlanNode) (row : Opened) → slice_get x.plan.nodes n ≡ Some node → slice_get t'.rows.items n ≡ Some row → node.kind ≡ kind.Memo → (is_clean row.colour ≡ true) × (unpacked row.code ≡ plan_value x.plan.nodes (value_in x.rows) n)
   settled_memos = subst (λ (y : GraphState). (n : ℕ) (node : PlanNode) (row : Opened) → slice_get y.plan.nodes n ≡ Some node → slice_get t'.rows.items n ≡ Some row → node.kind ≡ kind.Memo → (is_clean row.colour ≡ true) × (unpacked row.code ≡ plan_value y.plan.nodes (value_in y.rows) n)) view settled.memos
@@ -49,8 +51,23 @@ module _ (x : GraphState) (t t' : Table) (lists : List (List Edit)) (room : ℕ)
     where
       stays : (n : ℕ) (node : PlanNode) → slice_get t.plan.nodes n ≡ Some node → is_derived node.kind ≡ false → slice_get t'.rows.items n ≡ slice_get t.rows.items n
       stays n node at d =
-          let w = at_within t.plan.nodes n node at in let p = table.paired in let q = settled.stirred.step.since.paired in
+          let w = at_within t.plan.nodes n node at in let p = table.good.paired in let q = settled.stirred.step.since.paired in
           let old = within_at t.rows.items n (omega arith) in
           let new = within_at t'.rows.items n (omega arith) in
           let same = (settled.stirred.step.since.each n old.0 new.0 old.1 new.1).clean (((table.still early).good.each n node old.0 at old.1).source d) in
           new.1 ∙ ap (λ (z : Opened). Some z) same ∙ sym old.1
+
+-- ---- the value of a row
+
+pub value_is : (x : GraphState) (t : Table) (lists : List (List Edit)) (room row : ℕ) (kept : Opened) (rs : List Opened) → seen t lists room ≡ x → IsTable t → rs ≡ t.rows.items → row < length rs → kept ≡ get_or rs row kept → (r : Option Code) → IfSome r (λ code. code ≡ unpacked kept.code) → IfNone r ((code : Code) → IsValue code → packed code ≢ kept.code) → r ≡ option_map (λ k. unpacked k.code) (slice_get x.rows row)
+value_is x t lists room row kept rs view table same within is r some none = by r some none ∙ sym (ap (option_map (λ k. unpacked k.code)) (ap (λ (q : GraphState). slice_get q.rows row) (sym view) ∙ at))
+  where
+    at : slice_get t.rows.items row ≡ Some kept
+    at = ap (λ (q : List Opened). slice_get q row) (sym same) ∙ slice_get_read rs (length rs) row kept refl within is
+
+    is_packed : IsPacked kept.code
+    is_packed = let w = at_within t.rows.items row kept at in let p = table.good.paired in let n = within_at t.plan.nodes row (omega arith) in (table.good.each row n.0 kept n.1 at).is_packed
+
+    by : (r : Option Code) → IfSome r (λ code. code ≡ unpacked kept.code) → IfNone r ((code : Code) → IsValue code → packed code ≢ kept.code) → r ≡ Some (unpacked kept.code)
+    by None some none = let p = is_packed in absurd (none p.code p.value p.packs)
+    by (Some code) some none = ap (λ (z : Code). Some z) some

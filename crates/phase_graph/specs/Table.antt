@@ -73,7 +73,7 @@ pub record IsTable (t : Table) : Type 0 where
   pub still : t.clock.base < 2 ^ 62 → IsStill t.plan.nodes t.rows.items t.readers t.clock
   pub early : t.clock.in_phase ≡ true → t.clock.base < 2 ^ 62
   pub ticks : t.clock.base < 2 ^ 63
-  pub paired : length t.rows.items ≡ length t.plan.nodes
+  pub good : IsGood t.plan.nodes t.rows.items
   pub fits : IsWorkOf t.plan.nodes t.work
   pub owners : length t.live.items ≡ length t.plan.owners
   pub is_full : IsFullAt t.full t.clock.drawn
@@ -89,6 +89,8 @@ pub record HaveRoom (lists : List (Reserve Edit)) (room : ℕ) : Type 0 where
 pub record IsGraph (t : Table) (edits : List (Reserve Edit)) (room : ℕ) (waits : Option (Reserve Noted)) (scratch : List Bool) : Type 0 where
   pub table : IsTable t
   pub lists : HaveRoom edits room
+  pub few_passes : length edits ≤ 16
+  pub few_edits : room ≤ 65537
   -- where a phase is open, another list waits for its end
   pub idle : t.clock.in_phase ≡ true → IsSome waits
   pub inside : length scratch ≡ length t.plan.owners

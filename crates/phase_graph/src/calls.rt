@@ -3,12 +3,12 @@ ghost use Rattle.std.specs.Prelude.{◌≡◌, ◌≢◌, ◌≤◌, ◌<◌, �
 ghost use Rattle.values.specs.declared.plan.Kind.TheVariants as kind;
 ghost use Rattle.values.specs.declared.plan.Noted.{Noted as NotedValue};
 ghost use Rattle.run_history.specs.Going.{Start, Going};
-ghost use Rattle.run_history.specs.Calls.{set, get, Calls};
+ghost use Rattle.run_history.specs.Calls.{set, get, dispose, Calls};
 ghost use Rattle.phase_graph.specs.Graph.{StaysOpen};
 ghost use Rattle.phase_graph.specs.Way.{IsOnWay};
 
 use crate::graph::Graph;
-use values::{Code, Stop};
+use values::{Code, Disposal, Stop};
 
 impl Graph {
     /// Writes the value to a signal or a field, and answers its number. `Disposed` where the row's owner is disposed,
@@ -18,6 +18,7 @@ impl Graph {
         requires row { IsSomeAnd (slice_get self.old.plan.nodes signal) (λ node. (node.kind ≡ kind.Signal) ⊎ (node.kind ≡ kind.Field)) }
         ensures stays { StaysOpen self.old self.new }
         ensures edits { self.new.edits ≡ self.old.edits }
+        ensures live { self.new.live ≡ self.old.live }
         ensures call { (s : Start) (g : Going) (pass : ℕ) → IsOnWay s g self.old → (block : List NotedValue) × (h : Going) × Calls s g block h pass (set signal code result) × IsOnWay s h self.new }
     {
         self.table.set(signal, code)
@@ -31,8 +32,20 @@ impl Graph {
         requires row { IsSomeAnd (slice_get self.old.plan.nodes node) (λ n. n.kind ≢ kind.Effect) }
         ensures stays { StaysOpen self.old self.new }
         ensures edits { self.new.edits ≡ self.old.edits }
+        ensures live { self.new.live ≡ self.old.live }
         ensures call { (s : Start) (g : Going) (pass : ℕ) → IsOnWay s g self.old → (block : List NotedValue) × (h : Going) × Calls s g block h pass (get node result) × IsOnWay s h self.new }
     {
         self.table.get(node)
+    }
+
+    /// Disposes the owner and all owners inside it, inner ones first. It takes the time of the owners from this one on.
+    pub fn dispose(&mut self, owner: u32) -> Disposal
+        requires open { self.old.is_open ≡ true }
+        requires owner { owner < length self.old.plan.owners }
+        ensures stays { StaysOpen self.old self.new }
+        ensures edits { self.new.edits ≡ self.old.edits }
+        ensures call { (s : Start) (g : Going) (pass : ℕ) → IsOnWay s g self.old → (block : List NotedValue) × (h : Going) × Calls s g block h pass (dispose owner result) × IsOnWay s h self.new }
+    {
+        self.table.dispose(self.inside.as_mut_slice(), owner)
     }
 }

@@ -16,6 +16,7 @@ impl Table {
         requires open { self.old.clock.in_phase ≡ true }
         requires row { IsSomeAnd (slice_get self.old.plan.nodes node) (λ n. n.kind ≢ kind.Effect) }
         ensures kept { IsKept self.old self.new }
+        ensures live { self.new.live ≡ self.old.live }
         ensures call { (pass : ℕ) → MakesCall self.old self.new pass (get node result) }
     {
         if let Some(owner) = self.dead_owner(node) {
@@ -31,6 +32,7 @@ impl Table {
         requires row { IsSomeAnd (slice_get self.old.plan.nodes node) (λ n. n.kind ≢ kind.Effect) }
         requires live { (owner : ℕ) × HasOwner self.old.plan.nodes self.old.live.items node owner true }
         ensures kept { IsKept self.old self.new }
+        ensures live { self.new.live ≡ self.old.live }
         ensures call { (pass : ℕ) → MakesCall self.old self.new pass (get node result) }
     {
         match self.look_up(node) {

@@ -3,6 +3,8 @@
 
 mod between;
 mod calls;
+mod disposal;
+mod edits;
 mod getting;
 mod graph;
 mod making;

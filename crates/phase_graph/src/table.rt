@@ -1,5 +1,5 @@
 //! The rows of a plan, with all that the calls on them work with.
-ghost use Rattle.std.specs.Prelude.{◌≡◌, ◌≤◌, ◌<◌, ◌+◌, ◌⊎◌, ℕ, true, false, length, None, IfSome, IfNone};
+ghost use Rattle.std.specs.Prelude.{◌≡◌, ◌≤◌, ◌<◌, ◌+◌, ◌⊎◌, ℕ, true, false, length, slice_get, Some, None, IfSome, IfNone};
 ghost use Rattle.phase_graph.specs.Table.{IsTable, HasOwner, IsFilled};
 
 use sources::Opened;
@@ -35,6 +35,15 @@ impl Table {
         } else {
             Some(owner)
         }
+    }
+
+    /// Whether an owner is live.
+    pub(crate) fn is_live(&self, owner: u32) -> bool
+        requires table { IsTable self.now }
+        requires owner { owner < length self.now.plan.owners }
+        ensures { slice_get self.now.live.items owner ≡ Some result }
+    {
+        self.live[owner as usize]
     }
 
     /// A number above the last of a phase, for a call that finds none to note: it is drawn once, and kept.

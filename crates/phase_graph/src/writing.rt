@@ -15,6 +15,7 @@ impl Table {
         requires open { self.old.clock.in_phase ≡ true }
         requires row { IsSomeAnd (slice_get self.old.plan.nodes signal) (λ node. (node.kind ≡ kind.Signal) ⊎ (node.kind ≡ kind.Field)) }
         ensures kept { IsKept self.old self.new }
+        ensures live { self.new.live ≡ self.old.live }
         ensures call { (pass : ℕ) → MakesCall self.old self.new pass (set signal code result) }
     {
         if let Some(owner) = self.dead_owner(signal) {
@@ -33,6 +34,7 @@ impl Table {
         requires row { IsSomeAnd (slice_get self.old.plan.nodes signal) (λ node. (node.kind ≡ kind.Signal) ⊎ (node.kind ≡ kind.Field)) }
         requires live { (owner : ℕ) × HasOwner self.old.plan.nodes self.old.live.items signal owner true }
         ensures kept { IsKept self.old self.new }
+        ensures live { self.new.live ≡ self.old.live }
         ensures call { (pass : ℕ) → MakesCall self.old self.new pass (set signal code result) }
     {
         match self.put(signal, code) {
