@@ -14,3 +14,4 @@ pub mod Quiet
 pub mod Turns
 pub mod Disposing
 pub mod EditLemmas
+pub mod Passes

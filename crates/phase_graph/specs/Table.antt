@@ -146,6 +146,11 @@ pub record IsTurned (old new : Table) (owner : ℕ) (before after : Disposal) : 
   pub kept : IsKept old new
   pub what : ((slice_get old.live.items owner ≡ Some false) × (new ≡ old) × (after ≡ record before { before = before.before + 1 })) ⊎ (IsTurnedNow old new owner × (after ≡ record before { now = before.now + 1 }))
 
+-- the list with the edit that was accepted at its end
+abbrev pub list_with : List Edit → Edit → Result ℕ Stop → List Edit
+list_with list asked (Ok number) = list ++ asked ∷ []
+list_with list asked (Err why) = list
+
 -- the lists of edits with the one that was accepted behind those of its pass
 abbrev pub edits_with : List (List Edit) → ℕ → Edit → Result ℕ Stop → List (List Edit)
 edits_with lists pass asked (Ok number) = slice_set lists (pass - 1) (unwrap_or (numbered lists pass) [] ++ asked ∷ [])

@@ -2,12 +2,15 @@
 ghost use Rattle.std.specs.Prelude.{◌≡◌, ◌≢◌, ◌≤◌, ◌<◌, ◌+◌, ◌⊎◌, ℕ, true, List, length, slice_get, Some, IsSomeAnd};
 ghost use Rattle.values.specs.declared.plan.Kind.TheVariants as kind;
 ghost use Rattle.values.specs.declared.plan.Noted.{Noted as NotedValue};
+ghost use Rattle.script_items.specs.Script.{numbered};
 ghost use Rattle.run_history.specs.Going.{Start, Going};
-ghost use Rattle.run_history.specs.Calls.{set, get, dispose, Calls};
+ghost use Rattle.run_history.specs.Calls.{set, get, dispose, edit, Calls};
 ghost use Rattle.phase_graph.specs.Graph.{StaysOpen};
 ghost use Rattle.phase_graph.specs.Way.{IsOnWay};
 
+use crate::edits::edit_in;
 use crate::graph::Graph;
+use store_fields::Edit;
 use values::{Code, Disposal, Stop};
 
 impl Graph {
@@ -47,5 +50,18 @@ impl Graph {
         ensures call { (s : Start) (g : Going) (pass : ℕ) → IsOnWay s g self.old → (block : List NotedValue) × (h : Going) × Calls s g block h pass (dispose owner result) × IsOnWay s h self.new }
     {
         self.table.dispose(self.inside.as_mut_slice(), owner)
+    }
+
+    /// Notes the edit of what the owner owns, as one of this pass, and answers its number. `Disposed` where the owner
+    /// is disposed, and `Full` where the number is above the last of a phase.
+    pub fn edit(&mut self, pass: u32, owner: u32, asked: Edit) -> Result<u32, Stop>
+        requires open { self.old.is_open ≡ true }
+        requires owner { owner < length self.old.plan.owners }
+        requires pass { IsSomeAnd (numbered self.old.edits pass) (λ edits. length edits < self.old.edit_room) }
+        ensures stays { StaysOpen self.old self.new }
+        ensures call { (s : Start) (g : Going) → IsOnWay s g self.old → (block : List NotedValue) × (h : Going) × Calls s g block h pass (edit owner asked result) × IsOnWay s h self.new }
+    {
+        let list = &mut self.edits[pass as usize - 1];
+        edit_in(&mut self.table, list, pass, owner, asked)
     }
 }
