@@ -1,8 +1,9 @@
 -- What the call on an effect leaves, in the words of its contract.
-use Rattle.std.proofs.Common.{◌≡◌, ◌≢◌, ℕ, ◌+◌, ◌≤◌, ◌⊎◌, inl, inr, List, Result, Ok, Err, IfOk, OnOk, OnErr, slice_get, Some, set, refl, sym, ap, subst, ◌∙◌, arith, true, false}
+use Rattle.std.proofs.Common.{◌≡◌, ◌≢◌, ℕ, suc, ◌+◌, ◌≤◌, ◌⊎◌, inl, inr, List, [], ◌∷◌, ◌++◌, length, append_assoc, Result, Ok, Err, IfOk, OnOk, OnErr, slice_get, Some, set, refl, sym, ap, subst, ◌∙◌, arith, true, false}
 use Rattle.values.specs.declared.code.Code.{Code}
 use Rattle.values.specs.declared.plan.Fact.{Fact}
 use Rattle.values.specs.declared.plan.Kind.TheVariants.{Effect}
+use Rattle.values.specs.declared.plan.Noted.{Noted}
 use Rattle.values.specs.declared.plan.PlanNode.{PlanNode}
 use Rattle.values.specs.Packing.{unpacked}
 use Rattle.values.specs.PlanValues.{plan_value}
@@ -15,7 +16,7 @@ use Rattle.still_readers.specs.Readers.{HasRead}
 use Rattle.still_readers.proofs.Lists.{set_here, set_other, one_at}
 use Rattle.still_rows.specs.declared.clock.Clock.{Clock}
 use Rattle.still_rows.specs.declared.clock.Full.{Full}
-use Rattle.still_rows.specs.Clock.{IsClock, filled}
+use Rattle.still_rows.specs.Clock.{IsClock, IsTicked, filled, entry_at}
 use Rattle.still_rows.specs.Frames.{AreLawful}
 use Rattle.still_rows.specs.Since.{kept_row}
 use Rattle.still_rows.specs.Works.{unclean_count, IsStill, IsStepped}
@@ -29,6 +30,27 @@ use Rattle.still_effects.proofs.EffectLemmas.{effect_derived, unclean_put, same_
 -- an entry that says something else is no matter of the rows
 pub filled_still : (nodes : List PlanNode) (rows : List Opened) (readers : Readers) (c : Clock) (place : ℕ) (fact : Fact) → IsStill nodes rows readers c → IsClock (filled c place fact) → IsStill nodes rows readers (filled c place fact)
 filled_still nodes rows readers c place fact s ticks = record { lawful = s.lawful; good = s.good; dated = s.dated; roomy = s.roomy; of_plan = s.of_plan; enrolled = s.enrolled; ticks = ticks }
+
+prefix_of : (xs ys : List Noted) → ((k : ℕ) (x : Noted) → slice_get xs k ≡ Some x → slice_get ys k ≡ Some x) → (later : List Noted) × (ys ≡ xs ++ later)
+prefix_of [] ys h = (ys, refl)
+prefix_of (x ∷ xs) [] h = absurd (let e = h 0 x refl in cc)
+prefix_of (x ∷ xs) (y ∷ ys) h =
+    let same : y ≡ x = (let e = h 0 x refl in cc) in
+    let rest = prefix_of xs ys (λ k z e. h (suc k) z e) in
+    (rest.0, (λ i. same i ∷ rest.1 i))
+
+set_after : (xs later : List Noted) (v w : Noted) → set (xs ++ v ∷ later) (length xs) w ≡ xs ++ w ∷ later
+set_after [] later v w = refl
+set_after (x ∷ xs) later v w = ap (λ (l : List Noted). x ∷ l) (set_after xs later v w)
+
+-- what stands behind a number that was drawn, and the entries once it says something else
+pub entries_after : (old new noted : Clock) (held fact : Fact) → IsClock old → old.in_phase ≡ true → IsTicked old new held → ((k : ℕ) (x : Noted) → slice_get new.entries.list k ≡ Some x → slice_get noted.entries.list k ≡ Some x)
+    → (later : List Noted) × (noted.entries.list ≡ old.entries.list ++ entry_at old.drawn held ∷ later) × (set noted.entries.list old.drawn (entry_at old.drawn fact) ≡ old.entries.list ++ entry_at old.drawn fact ∷ later)
+entries_after old new noted held fact clock phase tick stay =
+    let p = prefix_of new.entries.list noted.entries.list stay in
+    let e = p.1 ∙ ap (λ (l : List Noted). l ++ p.0) (tick.noted phase) ∙ append_assoc old.entries.list (entry_at old.drawn held ∷ []) p.0 in
+    let n : length old.entries.list ≡ old.drawn = clock.noted phase (let f = tick.few in let d = tick.drawn in omega arith) in
+    (p.0, e, ap (λ (l : List Noted). set l old.drawn (entry_at old.drawn fact)) e ∙ ap (λ (q : ℕ). set (old.entries.list ++ entry_at old.drawn held ∷ p.0) q (entry_at old.drawn fact)) (sym n) ∙ set_after old.entries.list p.0 (entry_at old.drawn held) (entry_at old.drawn fact))
 
 -- the rows after the effect's row was put
 module _ (nodes : List PlanNode) (rows sourced rows' : List Opened) (readers readers' : Readers) (c c' : Clock) (i : ℕ) (y : Opened) (is : IsEffect nodes i) (s : IsStepped nodes rows sourced readers readers' c c') (put : rows' ≡ set sourced i y) where
@@ -61,6 +83,9 @@ ended_more nodes rows0 rows1 rows2 r0 r1 r2 c0 c1 c2 i s (end.Ran code) h = reco
   noted = h.noted;
   run = h.run;
   after_is = h.after_is;
+  later = h.later;
+  held = h.held;
+  entries = h.entries;
   still = h.still;
 }
 
@@ -74,6 +99,8 @@ full_more nodes rows0 rows1 rows2 r0 r1 r2 c0 c1 c2 i s (inr h) = inr record {
   drawn = h.drawn;
   ticked = h.ticked;
   stepped = h.stepped;
+  later = h.later;
+  entries = h.entries;
   left = h.left;
 }
 

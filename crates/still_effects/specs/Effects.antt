@@ -1,8 +1,9 @@
 -- What the call on one effect leaves.
-use Rattle.std.specs.Prelude.{◌≡◌, ◌≢◌, ℕ, ◌+◌, ◌<◌, ◌⊎◌, true, false, List, slice_get, slice_set, Option, Some, None}
+use Rattle.std.specs.Prelude.{◌≡◌, ◌≢◌, ℕ, ◌+◌, ◌<◌, ◌⊎◌, true, false, List, ◌∷◌, ◌++◌, slice_get, slice_set, Option, Some, None}
 use Rattle.values.specs.declared.code.Code.{Code}
 use Rattle.values.specs.declared.plan.Fact.TheVariants.{Ran, Void}
 use Rattle.values.specs.declared.plan.Kind.TheVariants as kind
+use Rattle.values.specs.declared.plan.Noted.{Noted}
 use Rattle.values.specs.declared.plan.PlanNode.{PlanNode}
 use Rattle.values.specs.Packing.{unpacked}
 use Rattle.values.specs.PlanValues.{plan_value}
@@ -16,7 +17,7 @@ use Rattle.work_order.specs.Order.{is_due}
 use Rattle.still_readers.specs.declared.readers.Readers.{Readers}
 use Rattle.still_readers.specs.Readers.{HasRead}
 use Rattle.still_rows.specs.declared.clock.Clock.{Clock}
-use Rattle.still_rows.specs.Clock.{IsTicked, now_of, filled}
+use Rattle.still_rows.specs.Clock.{IsTicked, now_of, filled, entry_at}
 use Rattle.still_rows.specs.Frames.{IsFrame}
 use Rattle.still_rows.specs.Moves.{IsKept}
 use Rattle.still_rows.specs.Since.{kept_row}
@@ -112,6 +113,10 @@ pub record IsRan (nodes : List PlanNode) (rows rows' : List Opened) (readers rea
   pub noted : Clock
   pub run : IsRunUnder nodes found_rows rows' found_readers readers' drawn noted i code (now_of drawn)
   pub after_is : after ≡ filled noted found_clock.drawn (Ran i code)
+  -- so between what was noted before the number and after it
+  pub later : List Noted
+  pub held : noted.entries.list ≡ found_clock.entries.list ++ entry_at found_clock.drawn (Void i) ∷ later
+  pub entries : after.entries.list ≡ found_clock.entries.list ++ entry_at found_clock.drawn (Ran i code) ∷ later
   pub still : IsStill nodes rows' readers' after
 
 abbrev pub EndedAs : List PlanNode → List Opened → List Opened → Readers → Readers → Clock → Clock → ℕ → Effect → Type 0
@@ -127,6 +132,8 @@ pub record IsCutOff (nodes : List PlanNode) (rows rows' : List Opened) (readers 
   pub drawn : Clock
   pub ticked : IsTicked found_clock drawn (Void i)
   pub stepped : IsStepped nodes found_rows rows' found_readers readers' drawn after
+  pub later : List Noted
+  pub entries : after.entries.list ≡ found_clock.entries.list ++ entry_at found_clock.drawn (Void i) ∷ later
   pub left : HasUncleanMemo nodes rows'
 
 -- there was no number for a source or for the effect itself, or the run was cut off
