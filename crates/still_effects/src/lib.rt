@@ -8,3 +8,6 @@ mod run;
 pub use effect::{Effect, run_effect};
 pub use find::{Found, find_out};
 pub use run::run_under;
+
+#[cfg(test)]
+mod tests;
