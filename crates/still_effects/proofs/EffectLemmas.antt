@@ -1,12 +1,11 @@
 -- The work on an effect, under which its sources are brought up to date.
-use Rattle.std.proofs.Common.{◌≡◌, ◌≢◌, ℕ, zero, suc, ◌+◌, ◌<◌, ◌≤◌, ◌⊎◌, inl, inr, List, [], ◌∷◌, slice_get, Option, Some, None, length, set, refl, sym, ap, subst, ◌∙◌, arith, Bool, true, false, if◌then◌else◌}
+use Rattle.std.proofs.Common.{◌≡◌, ◌≢◌, ℕ, zero, suc, ◌<◌, ◌≤◌, inl, inr, List, [], ◌∷◌, slice_get, Option, Some, length, set, refl, sym, ap, subst, ◌∙◌, arith, Bool, true, false, if◌then◌else◌}
 use Rattle.values.specs.declared.code.Code.{Code}
-use Rattle.values.specs.declared.plan.Fact.{Fact}
 use Rattle.values.specs.declared.plan.Kind.{Kind}
 use Rattle.values.specs.declared.plan.Kind.TheVariants.{Memo, Effect}
 use Rattle.values.specs.declared.plan.PlanNode.{PlanNode}
-use Rattle.values.specs.Packing.{packed, unpacked}
-use Rattle.values.specs.PlanValues.{is_derived, plan_value}
+use Rattle.values.specs.Packing.{packed}
+use Rattle.values.specs.PlanValues.{is_derived}
 use Rattle.values.proofs.PlanValuesLemmas.{plan_value-derived}
 use Rattle.sources.specs.declared.body.Read.{Read}
 use Rattle.sources.specs.declared.body.Cause.{Cause}
@@ -17,25 +16,23 @@ use Rattle.sources.specs.declared.opening.Opened.{Opened}
 use Rattle.sources.specs.Bodies.{IsCaused}
 use Rattle.sources.specs.Colours.{is_clean}
 use Rattle.sources.specs.Rows.{value_in, IsPresent, IsDerivedGood, IsGood}
-use Rattle.sources.proofs.RowLemmas.{clean_at}
 use Rattle.work_order.specs.declared.frame.Due.{Due}
 use Rattle.work_order.specs.declared.frame.Due.TheVariants as due
 use Rattle.work_order.specs.declared.frame.Frame.{Frame}
 use Rattle.work_order.specs.Order.{first_frame, is_due}
 use Rattle.still_readers.specs.declared.readers.Readers.{Readers}
-use Rattle.still_readers.specs.Readers.{HasRead}
-use Rattle.still_readers.proofs.Lists.{at_within, within_at, set_here, set_other, one_at, which, not_both}
+use Rattle.still_readers.proofs.Lists.{at_within, within_at, not_both}
 use Rattle.still_rows.specs.declared.clock.Clock.{Clock}
-use Rattle.still_rows.specs.Clock.{IsClock, IsTicked, now_of, filled}
-use Rattle.still_rows.specs.Frames.{AreLawful, IsGoing, IsFrameOf, IsFrame, IsMemo}
+use Rattle.still_rows.specs.Clock.{now_of}
+use Rattle.still_rows.specs.Frames.{AreLawful, IsGoing, IsFrameOf, IsFrame}
 use Rattle.still_rows.specs.Moves.{work_left, IsKept, IsRun, IsBelow}
 use Rattle.still_rows.specs.Since.{IsSeen, kept_row, finished_row}
 use Rattle.still_rows.specs.Ends.{IsRunRecorded}
 use Rattle.still_rows.specs.Works.{unclean_count, work_of, IsStill, IsStepped}
 use Rattle.still_rows.proofs.FramesLemmas.{reads_back, named_memo}
 use Rattle.still_rows.proofs.MovesLemmas.{frame_from, first_is_frame}
-use Rattle.still_rows.proofs.WorksLemmas.{values_set, unclean_less, stepped_same, stepped_more, moved_less, keep_still, run_still, run_caused}
-use Rattle.still_effects.specs.Effects.{IsEffect, IsDue, IsSame, search_left, IsNow, IsRunRow, IsRunUnder, IsRan, IsCutOff}
+use Rattle.still_rows.proofs.WorksLemmas.{stepped_same, stepped_more, moved_less, keep_still, run_still, run_caused}
+use Rattle.still_effects.specs.Effects.{IsEffect, IsDue, IsSame, search_left, IsNow, IsRunUnder}
 
 pub effect_derived : (k : Kind) → k ≡ Effect → is_derived k ≡ true
 effect_derived k e = rw e refl

@@ -1,5 +1,5 @@
 -- What the call on an effect leaves, in the words of its contract.
-use Rattle.std.proofs.Common.{◌≡◌, ◌≢◌, ℕ, suc, ◌+◌, ◌≤◌, ◌⊎◌, inl, inr, List, [], ◌∷◌, ◌++◌, length, append_assoc, Result, Ok, Err, IfOk, OnOk, OnErr, slice_get, Some, set, refl, sym, ap, subst, ◌∙◌, arith, true, false}
+use Rattle.std.proofs.Common.{◌≡◌, ◌≢◌, ℕ, suc, ◌+◌, ◌≤◌, inl, inr, List, [], ◌∷◌, ◌++◌, length, append_assoc, Result, Ok, Err, IfOk, OnOk, OnErr, slice_get, Some, set, refl, sym, ap, ◌∙◌, arith, true, false}
 use Rattle.values.specs.declared.code.Code.{Code}
 use Rattle.values.specs.declared.plan.Fact.{Fact}
 use Rattle.values.specs.declared.plan.Kind.TheVariants.{Effect}
@@ -24,7 +24,7 @@ use Rattle.still_rows.proofs.FramesLemmas.{reads_back}
 use Rattle.still_rows.proofs.WorksLemmas.{values_set, unclean_less, stepped_more}
 use Rattle.still_effects.specs.declared.effect.Effect.{Effect as Outcome}
 use Rattle.still_effects.specs.declared.effect.Effect.TheVariants as end
-use Rattle.still_effects.specs.Effects.{IsEffect, IsSame, IsRunUnder, IsRan, EndedAs, IsCutOff, FullAs}
+use Rattle.still_effects.specs.Effects.{IsEffect, EndedAs, FullAs}
 use Rattle.still_effects.proofs.EffectLemmas.{effect_derived, unclean_put, same_more}
 
 -- an entry that says something else is no matter of the rows

@@ -1,11 +1,9 @@
-use Rattle.std.proofs.Common.{◌≡◌, ◌≤◌, ◌+◌, ℕ, Result, IfOk, OnOk, OnErr, slice_get, Some, sym, subst, ap, ◌∙◌, arith, true, false}
-use Rattle.sources.specs.declared.opening.Opened.{Opened}
-use Rattle.still_rows.specs.declared.clock.Full.{Full}
+use Rattle.std.proofs.Common.{ℕ, IfOk, OnErr, subst, ◌∙◌}
 use Rattle.still_effects.specs.declared.effect.Effect.{Effect}
 use Rattle.still_effects.specs.declared.effect.Effect.TheVariants as end
 use Rattle.still_effects.specs.declared.find.Found.{Found}
 use Rattle.still_effects.specs.Effects.{FoundAs, EndedAs, FullAs}
-use Rattle.still_effects.proofs.EndLemmas.{ended_more, full_more, if_ok_as, if_ok_on, on_err_as, ended_still, ended_values, ended_others, ended_have, ended_clock, ended_clean, ended_spent, whole_still, whole_values, whole_others, whole_have, whole_clock, full_unrun, full_unclean, full_short}
+use Rattle.still_effects.proofs.EndLemmas.{ended_more, full_more, if_ok_as, if_ok_on, on_err_as, ended_values, ended_others, ended_have, ended_clock, ended_clean, ended_spent, whole_still, whole_values, whole_others, whole_have, whole_clock, full_unrun, full_unclean, full_short}
 use Rattle.still_effects.proofs.EffectLemmas.{due_unclean}
 use Rattle.still_effects.proofs.effect.run_effect.Goals as goal
 

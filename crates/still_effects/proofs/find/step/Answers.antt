@@ -1,4 +1,4 @@
-use Rattle.std.proofs.Common.{◌≡◌, ℕ, slice_get, Some, refl, sym, subst, ap, ◌∙◌, arith, true, false}
+use Rattle.std.proofs.Common.{◌≡◌, refl, sym, subst, ap, ◌∙◌, true, false}
 use Rattle.work_order.specs.Order.{is_due}
 use Rattle.still_rows.specs.declared.moves.Moved.{Moved}
 use Rattle.still_rows.specs.Moves.{MovesTo}

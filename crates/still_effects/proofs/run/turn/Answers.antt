@@ -1,4 +1,4 @@
-use Rattle.std.proofs.Common.{◌≡◌, ℕ, slice_get, Some, sym, subst, ap, ◌∙◌, arith}
+use Rattle.std.proofs.Common.{ℕ, slice_get, sym, subst, ap, ◌∙◌}
 use Rattle.still_rows.specs.declared.bring.Ended.{Ended}
 use Rattle.still_rows.specs.Works.{EndsAs}
 use Rattle.still_rows.proofs.WorksLemmas.{run_runs}
