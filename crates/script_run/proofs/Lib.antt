@@ -8,3 +8,4 @@ pub mod Asked
 pub mod Settlings
 pub mod Made
 pub mod Runs
+pub mod WorkedKept

