@@ -1,4 +1,3 @@
-pub mod Loads
 pub mod Lists
 pub mod Named
 pub mod Owned

@@ -28,7 +28,7 @@ use Rattle.run_history.specs.Going.{just_opened}
 use Rattle.run_history.specs.Calls.{Call, set, get, pump, dispose, edit, calls_by}
 use Rattle.run_history.specs.History.{PastFits, VerdictFits, VerdictsFit}
 use Rattle.run_weave.specs.Lanes.{IsQuietly, Speaks, stopped, set_reply, get_reply, LaneSpeaks, ended, rests, speaks, TargetsFit, OfCalls, phase_with}
-use Rattle.script_run.specs.Still.{StillState, opened_in, IsOpenAt, HasEnded}
+use Rattle.still_graph.specs.Still.{StillState, opened_in, IsOpenAt, HasEnded}
 use Rattle.script_run.specs.Lanes.{IsThrough, HaveDone, IsMade}
 use Rattle.script_run.specs.Today.{SetsOrGets, OpsRun, LanesRun}
 use Rattle.script_run.proofs.Steps.{same_opened}

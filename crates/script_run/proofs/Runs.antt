@@ -1,22 +1,25 @@
 -- A run goes on by a phase.
-use Rattle.std.proofs.Common.{◌≡◌, ℕ, suc, ◌+◌, ◌<◌, Bool, true, false, cond, List, [], ◌∷◌, ◌++◌, length, map, take, sym, ap, subst, ◌∙◌, arith, append_assoc}
+use Rattle.std.proofs.Common.{◌≡◌, ℕ, suc, ◌+◌, ◌<◌, Bool, true, false, cond, List, [], ◌∷◌, ◌++◌, length, map, take, sym, ap, subst, ◌∙◌, arith, append_assoc, refl}
 use Rattle.std.proofs.lemmas.List.{append-nil, length-map, take_more, length-take-le}
 use Rattle.component_items.specs.declared.component.Component.{Component}
 use Rattle.script_items.specs.declared.operation.ScriptOp.{ScriptOp}
 use Rattle.run_items.specs.declared.answer.Answer.{Answer}
+use Rattle.held_state.specs.State.{HeldState, first_state}
+use Rattle.plain_evaluation.specs.Held.{Held, first_held}
 use Rattle.plain_evaluation.specs.Scratch.{pending}
 use Rattle.run_meaning.specs.Ending.{report_if}
 use Rattle.run_meaning.specs.Lane.{Done}
 use Rattle.run_meaning.specs.Opened.{opened_of}
 use Rattle.run_meaning.specs.Phase.{Phase}
 use Rattle.run_meaning.specs.Report.{answer_lines, journal_lines}
-use Rattle.run_meaning.specs.Run.{Settled, more, after, phases_of, script_of, answers_of_lanes, answers_from, answers_of, journal_of}
+use Rattle.run_meaning.specs.Run.{Settled, more, after, phases_of, script_of, answers_of_lanes, answers_from, answers_of, journal_of, none, Runs, held_arrived}
 use Rattle.report_text.proofs.LineLemmas.{report_from-push}
 use Rattle.script_run.specs.declared.run.Ran.{Ran}
 use Rattle.script_run.specs.Lanes.{IsMade, lanes_at}
 use Rattle.script_run.specs.Ran.{IsRanTo, GoesOn}
 use Rattle.script_run.specs.Settlings.{Settles}
-use Rattle.script_run.specs.Still.{StillState, IsSettledAfter}
+use Rattle.still_graph.specs.declared.still.Stage.TheVariants.{Made}
+use Rattle.still_graph.specs.Still.{StillState, IsSettledAfter}
 use Rattle.script_run.proofs.Lists.{map_last}
 use Rattle.script_run.proofs.Asked.{lanes_behind}
 
@@ -79,3 +82,28 @@ runs_on component script asked before old new mid p l so_far made same settles a
       component_is = is_component;
     } in
     record { to = to; settled = subst (λ (ps : List Phase). IsSettledAfter ps new.still) (sym last) ended.2 }
+
+-- ---- before the first phase
+
+no_lines : (asked : Bool) (component : Component) → [] ≡ report_if asked component []
+no_lines true component = refl
+no_lines false component = refl
+
+pub begins : (component : Component) (asked : Bool) (made : StillState) (ran : Ran) → made.component ≡ component → made.state ≡ first_state component → made.stage ≡ Made → Settles made ran.still
+    → ran.answers ≡ [] → ran.report.items ≡ [] → ran.pending ≡ pending ran.still.component ran.still.state.held → GoesOn component [] asked ran
+begins component asked made ran same state stage settles answers lines waiting =
+    let first = settles.made stage in
+    let is_component : ran.still.component ≡ component = settles.component ∙ same in
+    let held : ran.still.state.held ≡ held_arrived first.0 (first_held component) = first.1 ∙ ap (λ (s : HeldState). held_arrived first.0 s.held) state in
+    let to : IsRanTo component [] asked ran = record {
+      keys = first.0;
+      steps = [];
+      runs = subst (λ (h : Held). Runs component (held_arrived first.0 (first_held component)) [] h) (sym held) none;
+      script_is = refl;
+      answers_are = sym answers;
+      journal_is = sym first.2.journal;
+      report_is = lines ∙ no_lines asked component;
+      pending_is = waiting ∙ ap (λ (c : Component). pending c ran.still.state.held) is_component;
+      component_is = is_component;
+    } in
+    record { to = to; settled = first.2 }

@@ -5,7 +5,7 @@ use Rattle.plain_evaluation.specs.Held.{Holding, nothing, value, stored, arrived
 use Rattle.run_meaning.specs.Edits.{held_written, held_edited, edits_of}
 use Rattle.run_meaning.specs.Entries.{disposed_in}
 use Rattle.run_meaning.specs.Run.{holdings_arrived, held_arrived, held_disposed}
-use Rattle.script_run.specs.Still.{StillState}
+use Rattle.still_graph.specs.Still.{StillState}
 use Rattle.script_run.specs.Settlings.{Settles}
 
 -- the keys that arrived last are held

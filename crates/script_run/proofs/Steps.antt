@@ -20,9 +20,9 @@ use Rattle.run_meaning.specs.Run.{answers_of_lane}
 use Rattle.run_history.specs.Going.{Going, start_of, just_opened}
 use Rattle.run_history.specs.Calls.{Call, MadeCall, Calls, Makes, CallsLead, calls_by}
 use Rattle.run_weave.specs.Lanes.{IsQuietly, Speaks, LaneSpeaks, ended, lane_of, LanesSpeak}
-use Rattle.script_run.specs.declared.still_stub.Stage.{Stage}
-use Rattle.script_run.specs.declared.still_stub.Stage.TheVariants.{Open, Ended}
-use Rattle.script_run.specs.Still.{StillState, opened_in, start_in, IsOpenAt}
+use Rattle.still_graph.specs.declared.still.Stage.{Stage}
+use Rattle.still_graph.specs.declared.still.Stage.TheVariants.{Open, Ended}
+use Rattle.still_graph.specs.Still.{StillState, opened_in, start_in, IsOpenAt}
 use Rattle.script_run.specs.Lanes.{IsOpenOver, IsSamePhase, IsAtOp, DoesNext, HasDone, HaveDone, first_ops, lanes_at}
 use Rattle.script_run.proofs.Lists.{folds_last, each_last, map_last}
 

@@ -20,7 +20,7 @@ use Rattle.plan_meaning.proofs.Told.{as_told}
 use Rattle.run_meaning.specs.Words.{In}
 use Rattle.run_meaning.specs.Opened.{Target, at_row, at_none, at_dead, target_at, dead_of}
 use Rattle.run_meaning.proofs.Dead.{dead_in}
-use Rattle.script_run.specs.Still.{StillState, opened_in}
+use Rattle.still_graph.specs.Still.{StillState, opened_in}
 use Rattle.script_run.specs.Lanes.{IsOpenOver}
 use Rattle.script_run.proofs.Named.{ReadsAs, set_kind, get_kind}
 use Rattle.script_run.proofs.Owned.{owner_within}

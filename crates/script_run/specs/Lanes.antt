@@ -15,8 +15,8 @@ use Rattle.run_meaning.specs.Run.{IsPhase, answers_of_lane, answers_of_lanes}
 use Rattle.run_history.specs.Going.{Going, just_opened}
 use Rattle.run_history.specs.Calls.{MadeCall, CallsLead, calls_by}
 use Rattle.run_weave.specs.Lanes.{LaneSpeaks, LanesSpeak}
-use Rattle.script_run.specs.declared.still_stub.Stage.TheVariants.{Open}
-use Rattle.script_run.specs.Still.{StillState, opened_in, start_in, IsOpenAt, HasEnded}
+use Rattle.still_graph.specs.declared.still.Stage.TheVariants.{Open}
+use Rattle.still_graph.specs.Still.{StillState, opened_in, start_in, IsOpenAt, HasEnded}
 
 -- a phase is open, over rows that are laid out from a state of the component
 pub record IsOpenOver (x : StillState) : Type 0 where

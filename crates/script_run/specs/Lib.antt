@@ -1,9 +1,3 @@
-pub mod Graph
-pub mod Way
-pub mod Still
-pub mod Answers
-pub mod Journal
-pub mod Loads
 pub mod Today
 pub mod Lanes
 pub mod Settlings

@@ -8,7 +8,7 @@ use Rattle.plain_evaluation.specs.Scratch.{pending}
 use Rattle.run_meaning.specs.Ending.{report_if}
 use Rattle.run_meaning.specs.Run.{Settled, Runs, phases_of, script_of, answers_of, journal_of, held_arrived}
 use Rattle.script_run.specs.declared.run.Ran.{Ran}
-use Rattle.script_run.specs.Still.{IsSettledAfter}
+use Rattle.still_graph.specs.Still.{IsSettledAfter}
 
 -- it is a run of the component on the script, with its answers and its journal, its report where that is asked for, and the loads that are pending behind it
 pub record IsRanTo (component : Component) (script : List (List (List ScriptOp))) (asked : Bool) (ran : Ran) : Type 0 where

@@ -3,8 +3,8 @@ use Rattle.std.specs.Prelude.{◌≡◌, ℕ, List, [], ◌∷◌, ◌++◌, Opt
 use Rattle.values.specs.declared.code.Code.{Code}
 use Rattle.run_meaning.specs.Phase.{Phase}
 use Rattle.run_meaning.specs.Run.{held_arrived, after}
-use Rattle.script_run.specs.declared.still_stub.Stage.TheVariants.{Made, Settled}
-use Rattle.script_run.specs.Still.{StillState, IsSettledAfter, HasEnded}
+use Rattle.still_graph.specs.declared.still.Stage.TheVariants.{Made, Settled}
+use Rattle.still_graph.specs.Still.{StillState, IsSettledAfter, HasEnded}
 
 -- one settling, or several one after another: what was made, and a phase that ended, is settled
 pub record Settles (old new : StillState) : Type 0 where

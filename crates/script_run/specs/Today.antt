@@ -3,7 +3,7 @@ use Rattle.std.specs.Prelude.{◌≡◌, ◌≤◌, ◌-◌, ◌^◌, ℕ, false
 use Rattle.component_items.specs.declared.component.Component.{Component}
 use Rattle.script_items.specs.declared.operation.ScriptOp.{ScriptOp}
 use Rattle.script_items.specs.declared.operation.ScriptOp.TheVariants as op
-use Rattle.script_run.specs.Loads.{has_load}
+use Rattle.still_graph.specs.Loads.{has_load}
 
 -- the operation is a set or a get
 abbrev pub SetsOrGets : ScriptOp → Type 0

@@ -7,11 +7,11 @@ ghost use Rattle.run_weave.specs.Lanes as weave;
 ghost use Rattle.script_run.specs.Lanes.{IsOpenOver, IsSamePhase, DoesNext, HasDone, first_ops};
 ghost use Rattle.script_run.specs.Today.{SetsOrGets, OpsRun};
 
-use crate::still_stub::{Still, Target};
 use outside::Gate;
 use run_items::{Answer, Answers, Reply};
 use run_weave::laws::lanes_go_on;
 use script_items::{Script, ScriptOp};
+use still_graph::{Still, Target};
 use values::{Code, NoMemory, Stop};
 
 /// What an operation is told whose call was stopped.

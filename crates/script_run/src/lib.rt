@@ -2,11 +2,9 @@
 #![tactic(auto)]
 
 mod lane;
-mod loads_stub;
 mod phase;
 mod run;
 mod settling;
-mod still_stub;
 mod today;
 
 pub use run::{Ran, run_script};

@@ -11,24 +11,24 @@ ghost use Rattle.run_meaning.specs.Lane.{Done};
 ghost use Rattle.run_meaning.specs.Phase.{Phase};
 ghost use Rattle.run_meaning.specs.Report.{answer_lines, journal_lines};
 ghost use Rattle.run_meaning.specs.Run.{answers_of_lanes};
-ghost use Rattle.script_run.specs.Graph.{ticks_of};
+ghost use Rattle.phase_graph.specs.Graph.{ticks_of};
 ghost use Rattle.script_run.specs.Lanes.{IsOpenOver, HaveDone, IsMade, lanes_at};
-ghost use Rattle.script_run.specs.Loads.{has_load};
+ghost use Rattle.still_graph.specs.Loads.{has_load};
 ghost use Rattle.script_run.specs.Ran.{GoesOn};
-ghost use Rattle.script_run.specs.Still.{opened_in, IsSettledAfter, IsOpenAt, HasEnded};
+ghost use Rattle.still_graph.specs.Still.{opened_in, IsSettledAfter, IsOpenAt, HasEnded};
 ghost use Rattle.script_run.specs.Today.{LanesRun, RunsToday};
-ghost use Rattle.script_run.specs.declared.still_stub.Stage.TheVariants as stage;
+ghost use Rattle.still_graph.specs.declared.still.Stage.TheVariants as stage;
 
 use crate::lane::run_lane;
 use crate::run::Ran;
 use crate::settling::settle_rounds;
-use crate::still_stub::Still;
 use outside::{Gate, Loader};
 use report_text::put_phase;
 use run_items::{Answer, Answers};
 use run_weave::laws::{calls_make_phases, lanes_make_all_calls, targets_of_components_fit};
 use script_items::Script;
 use std::alloc::Global;
+use still_graph::Still;
 use values::NoMemory;
 
 /// Makes the operations of all lanes of the phase, of which there is one at the most.

@@ -2,19 +2,19 @@
 ghost use Rattle.std.specs.Prelude.{◌≡◌, ◌≤◌, ◌^◌, ◌*◌, [], false, IfOk, length};
 ghost use Rattle.component_items.specs.Kept.{IsKept};
 ghost use Rattle.script_items.specs.KeptFor.{IsKeptFor};
-ghost use Rattle.script_run.specs.Graph.{ticks_of};
-ghost use Rattle.script_run.specs.Loads.{has_load};
+ghost use Rattle.phase_graph.specs.Graph.{ticks_of};
+ghost use Rattle.still_graph.specs.Loads.{has_load};
 ghost use Rattle.script_run.specs.Ran.{IsRanTo, GoesOn};
 ghost use Rattle.script_run.specs.Today.{RunsToday};
 
 use crate::phase::run_phase;
 use crate::settling::settle_rounds;
-use crate::still_stub::Still;
 use component_items::Component;
 use outside::{Gate, Loader};
 use run_items::Answers;
 use script_items::Script;
 use std::alloc::Global;
+use still_graph::Still;
 use values::{NoMemory, Numbers};
 
 /// What a run came to.

@@ -4,15 +4,15 @@ ghost use Rattle.values.specs.declared.code.Code.{Code as CodeValue};
 ghost use Rattle.plain_evaluation.specs.Scratch.{pending};
 ghost use Rattle.run_meaning.specs.Phase.{Phase};
 ghost use Rattle.run_meaning.specs.Run.{held_arrived, after};
-ghost use Rattle.script_run.specs.Graph.{ticks_of};
-ghost use Rattle.script_run.specs.Loads.{has_load};
-ghost use Rattle.script_run.specs.Still.{IsSettledAfter, HasEnded};
+ghost use Rattle.phase_graph.specs.Graph.{ticks_of};
+ghost use Rattle.still_graph.specs.Loads.{has_load};
+ghost use Rattle.still_graph.specs.Still.{IsSettledAfter, HasEnded};
 ghost use Rattle.script_run.specs.Settlings.{Settles};
-ghost use Rattle.script_run.specs.declared.still_stub.Stage.TheVariants as stage;
+ghost use Rattle.still_graph.specs.declared.still.Stage.TheVariants as stage;
 
-use crate::still_stub::{Pending, Settled, Still};
 use outside::Loader;
 use std::alloc::Global;
+use still_graph::{Pending, Settled, Still};
 use values::{NoMemory, Numbers};
 
 /// The loads that are named, in their order.

@@ -99,6 +99,7 @@ fn a_memo_shows_what_was_set_before(rt: HostRuntime) -> Result<(), Fail> {
     let report = b"1.1.1 set 1\n1.1.2 get 2 at 2\njournal 1.1 write 0 2\njournal 1.2 change 1 2\n";
     assert_eq!(rt; ran.report.as_slice(), &report[..]);
     assert_eq!(rt; ran.still.journal().phases(), 2);
+    assert_eq!(rt; ran.still.journal().phases(), 2);
     assert!(rt; ran.pending.is_empty());
     Ok(())
 }

@@ -4,9 +4,9 @@ ghost use Rattle.script_items.specs.Script.{numbered};
 ghost use Rattle.script_run.specs.Lanes.{first_ops, lanes_at};
 ghost use Rattle.script_run.specs.Today.{RunsToday, LanesRun, OpsRun, SetsOrGets, most_ops};
 
-use crate::loads_stub::has_load;
 use component_items::Component;
 use script_items::{Script, ScriptOp};
+use still_graph::has_load;
 
 /// Whether the operation is a set or a get.
 fn sets_or_gets(op: &ScriptOp) -> bool

@@ -3,7 +3,7 @@ use Rattle.component_items.specs.declared.component.Component.{Component}
 use Rattle.script_items.specs.KeptFor.{NamesMembers}
 use Rattle.script_items.specs.Members.{members_of}
 use Rattle.script_run.specs.Lanes.{first_ops}
-use Rattle.script_run.specs.Still.{StillState}
+use Rattle.still_graph.specs.Still.{StillState}
 use Rattle.script_run.specs.Today.{SetsOrGets}
 use Rattle.script_run.proofs.Lists.{all_at}
 use Rattle.script_run.proofs.Steps.{stays_open, op_of_first, none_done, one_more_done, all_done, none_at}

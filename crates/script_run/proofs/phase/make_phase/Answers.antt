@@ -2,7 +2,7 @@ use Rattle.std.proofs.Common.{ap}
 use Rattle.plain_evaluation.proofs.Fitting.{rows_of_held}
 use Rattle.run_meaning.specs.Opened.{opened_of}
 use Rattle.script_run.specs.Lanes.{lanes_at}
-use Rattle.script_run.specs.Still.{StillState}
+use Rattle.still_graph.specs.Still.{StillState}
 use Rattle.script_run.proofs.Made.{phase_made}
 use Rattle.script_run.proofs.phase.make_phase.Goals as goal
 

@@ -1,6 +1,6 @@
 use Rattle.std.proofs.Common.{◌≡◌, ◌≤◌, ◌+◌, ◌*◌, ◌^◌, take}
 use Rattle.component_items.specs.Kept.{IsKept}
-use Rattle.script_run.specs.Graph.{ticks_of}
+use Rattle.phase_graph.specs.Graph.{ticks_of}
 use Rattle.script_run.specs.Ran.{GoesOn}
 use Rattle.script_run.proofs.run.run_script.Given as goal
 

@@ -1,6 +1,6 @@
 use Rattle.std.proofs.Common.{◌≡◌, ◌≤◌, ◌+◌, ◌*◌}
 use Rattle.plain_evaluation.specs.Scratch.{pending}
-use Rattle.script_run.specs.Graph.{ticks_of}
+use Rattle.phase_graph.specs.Graph.{ticks_of}
 use Rattle.script_run.specs.Settlings.{Settles}
 use Rattle.script_run.proofs.settling.settle_rounds.Given as goal
 
