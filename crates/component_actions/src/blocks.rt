@@ -9,8 +9,8 @@ ghost use Rattle.values.specs.Texts.{with_text};
 
 use crate::expressions::take_whole;
 use crate::items::known_as;
-use component_blocks::{Kind, Rows};
 use component_draft::Draft;
+use component_scope::{Kind, Rows};
 use std::alloc::{AllocError, Global};
 
 /// The area that is read is open from here on.

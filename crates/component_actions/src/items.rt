@@ -5,12 +5,12 @@ ghost use Rattle.text_grammar.specs.declared.component.Action.TheVariants as act
 ghost use Rattle.component_meaning.specs.Actions as spec;
 ghost use Rattle.component_meaning.specs.Names.{fields_of, id_of};
 ghost use Rattle.component_meaning.specs.Size.{size};
-ghost use Rattle.component_blocks.specs.Scope.{what_of};
+ghost use Rattle.component_scope.specs.Scope.{what_of};
 
 use crate::expressions::take_whole;
-use component_blocks::{Declaration, Fields, Kind, SharedFields};
 use component_draft::{Draft, Keys};
 use component_items::Item;
+use component_scope::{Declaration, Fields, Kind, SharedFields};
 use std::alloc::{AllocError, Global};
 use std::mem;
 use values::{Codes, Numbers};

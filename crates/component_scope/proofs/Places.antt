@@ -8,9 +8,9 @@ use Rattle.std.proofs.lemmas.List.Folds.{position_or_len_push}
 use Rattle.std.proofs.lemmas.List.Sums.{prefix_len-le-length}
 use Rattle.component_meaning.specs.State.{Declared}
 use Rattle.component_meaning.specs.Actions.{rest}
-use Rattle.component_blocks.specs.declared.scope.Seen.{Seen}
-use Rattle.component_blocks.specs.Scope.{place_of, oldest}
-use Rattle.component_blocks.specs.Seen.{seen_in}
+use Rattle.component_scope.specs.declared.scope.Seen.{Seen}
+use Rattle.component_scope.specs.Scope.{place_of, oldest}
+use Rattle.component_scope.specs.Seen.{seen_in}
 
 -- ---- fields
 

@@ -24,7 +24,7 @@ pub enum Kind {
 impl Kind {
     ghost use Rattle.std.specs.Prelude.{◌≡◌, IfOk};
     ghost use Rattle.component_meaning.specs.Names.{fields_of};
-    ghost use Rattle.component_blocks.specs.Scope.{what_of};
+    ghost use Rattle.component_scope.specs.Scope.{what_of};
 
     /// A further owner of the same.
     fn share(&self) -> Result<Kind, AllocError>
@@ -64,7 +64,7 @@ impl Model for Declaration {
     ghost use Rattle.std.specs.Prelude.{◌+◌, ◌<◌, ◌^◌, length};
     ghost use Rattle.component_meaning.specs.State.{Declared};
     ghost use Rattle.component_meaning.specs.Names.{fields_of};
-    ghost use Rattle.component_blocks.specs.Scope.{what_of};
+    ghost use Rattle.component_scope.specs.Scope.{what_of};
 
     ghost Value = { Declared };
 
@@ -76,7 +76,7 @@ impl Model for Declaration {
 impl Declaration {
     ghost use Rattle.std.specs.Prelude.{◌≡◌, ◌+◌, ◌<◌, ◌^◌, length, Some, IfOk};
     ghost use Rattle.component_meaning.specs.Names as names;
-    ghost use Rattle.component_blocks.specs.Scope.{what_of};
+    ghost use Rattle.component_scope.specs.Scope.{what_of};
 
     /// A declaration of the name. All ids that it takes are numbers: its own, the one behind it, and one for each field.
     pub fn new(name: u32, id: u32, kind: Kind) -> Declaration
@@ -166,8 +166,8 @@ impl Model for Scope {
 
     ghost Value = { List Declared };
 
-    ghost use Rattle.component_blocks.specs.Seen.{seen_in, KnowsHidden};
-    ghost use Rattle.component_blocks.specs.Scope.{place_of};
+    ghost use Rattle.component_scope.specs.Seen.{seen_in, KnowsHidden};
+    ghost use Rattle.component_scope.specs.Scope.{place_of};
 
     ghost view = { λ s. seen_in s.seen };
 
@@ -197,7 +197,7 @@ impl Scope {
     ghost use Rattle.std.specs.Prelude.{◌≡◌, ◌==◌, [], ◌∷◌, OnOk, OnErr, length, find};
     ghost use Rattle.std.specs.Option.{option_copied};
     ghost use Rattle.component_meaning.specs.Actions.{rest};
-    ghost use Rattle.component_blocks.specs.Scope.{oldest};
+    ghost use Rattle.component_scope.specs.Scope.{oldest};
 
     /// No declarations.
     pub fn new(alloc: Global) -> Scope

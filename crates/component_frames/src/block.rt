@@ -1,27 +1,31 @@
 //! One block or element that is open.
 
 use crate::attributes::Attributes;
-use crate::rows::Rows;
 use component_items::{Attr, Item, Items};
+use component_scope::Rows;
 use std::alloc::AllocError;
 use values::Expr;
 
 /// What is open, as it began.
 #[derive(Drop)]
 pub enum Frame {
+    /// An area: its id, its name by its number in the table of texts, and its owner.
     Area {
         id: u32,
         name: u32,
         owner: u32,
     },
+    /// An `if`: its id and its condition.
     If {
         id: u32,
         cond: Expr,
     },
+    /// An `each`: its id and its store.
     Each {
         id: u32,
         rows: Rows,
     },
+    /// An element: its tag by its number in the table of texts, whether it has an end tag, and its attributes so far.
     Element {
         tag: u32,
         closed: bool,
@@ -35,8 +39,8 @@ impl Frame {
     ghost use Rattle.component_items.specs.Kept.{Standing};
     ghost use Rattle.component_meaning.specs.State.{Rows as Fielded, tag_of, attrs_of, inside, rows_of};
     ghost use Rattle.component_meaning.specs.Names.{name_of};
-    ghost use Rattle.component_blocks.specs.Blocks.{frame_of, is_area, is_branch};
-    ghost use Rattle.component_blocks.specs.Nest as nest;
+    ghost use Rattle.component_frames.specs.Blocks.{frame_of, is_area, is_branch};
+    ghost use Rattle.component_frames.specs.Nest as nest;
 
     /// Whether it is an area.
     pub fn is_area(&self) -> bool
@@ -104,6 +108,7 @@ impl Frame {
 /// A block or element that is open.
 #[derive(Drop)]
 pub struct Block {
+    /// As it began.
     pub frame: Frame,
     /// How many declarations were seen where it began.
     pub outside: usize,
@@ -118,7 +123,7 @@ pub struct Block {
 impl Block {
     ghost use Rattle.std.specs.Prelude.{◌≡◌};
     ghost use Rattle.component_meaning.specs.Actions.{item_of};
-    ghost use Rattle.component_blocks.specs.Blocks.{frame_of};
+    ghost use Rattle.component_frames.specs.Blocks.{frame_of};
 
     /// The item that it is.
     pub fn into_item(self) -> Item

@@ -1,8 +1,8 @@
 -- The names that are seen.
 use Rattle.std.specs.Prelude.{ℕ, ◌==◌, ◌-◌, if◌then◌else◌, Option, Some, None, List, [], ◌∷◌, length, drop}
 use Rattle.component_meaning.specs.State.{What, Declared, signal_name, memo_name, effect_name, resource_name, load_name, store_name, area_name}
-use Rattle.component_blocks.specs.declared.scope.Kind.{Kind}
-use Rattle.component_blocks.specs.declared.scope.Kind.TheVariants as kind
+use Rattle.component_scope.specs.declared.scope.Kind.{Kind}
+use Rattle.component_scope.specs.declared.scope.Kind.TheVariants as kind
 
 -- what a name of this kind is declared as
 abbrev pub what_of : Kind → What

@@ -2,10 +2,10 @@
 use Rattle.std.specs.Prelude.{◌≡◌, ◌≤◌, Bool, true, false, Option, Some, None, List, [], ◌∷◌, length}
 use Rattle.component_meaning.specs.State as state
 use Rattle.component_meaning.specs.State.{Declared, Open, area_frame, if_frame, each_frame, element_frame, standing_in, rows_in}
-use Rattle.component_blocks.specs.declared.block.Block.{Block}
-use Rattle.component_blocks.specs.declared.block.Frame.{Frame}
-use Rattle.component_blocks.specs.declared.block.Frame.TheVariants as frame
-use Rattle.component_blocks.specs.Scope.{oldest}
+use Rattle.component_frames.specs.declared.block.Block.{Block}
+use Rattle.component_frames.specs.declared.block.Frame.{Frame}
+use Rattle.component_frames.specs.declared.block.Frame.TheVariants as frame
+use Rattle.component_scope.specs.Scope.{oldest}
 
 abbrev pub frame_of : Frame → state.Frame
 frame_of (frame.Area id name owner) = area_frame id name owner
