@@ -3,9 +3,9 @@ use Rattle.token_reader.specs.Rules.{Accepts}
 use Rattle.component_items.specs.declared.refusal.Refusal.{Refusal}
 use Rattle.component_meaning.specs.Names.{content_in, place_of}
 use Rattle.component_meaning.specs.State.{State}
-use Rattle.component_tokens.specs.Keys.{text_key_or_refusal}
-use Rattle.component_tokens.proofs.TextKeys.{text_key}
-use Rattle.component_tokens.proofs.keys.accept_text_key.Goals as goal
+use Rattle.component_keys.specs.Keys.{text_key_or_refusal}
+use Rattle.component_keys.proofs.TextKeys.{text_key}
+use Rattle.component_keys.proofs.keys.accept_text_key.Goals as goal
 
 pub returns-in-Ok : goal.returns-in-Ok
 returns-in-Ok c =

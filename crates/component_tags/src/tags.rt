@@ -5,7 +5,7 @@ ghost use Rattle.text_lexer.specs.Token.{IsTokenOf};
 ghost use Rattle.token_reader.specs.Rules.{Accepts};
 ghost use Rattle.component_meaning.specs.Meaning.{accept_token};
 ghost use Rattle.component_meaning.specs.Names as names;
-ghost use Rattle.component_tokens.specs.Spelled as spec;
+ghost use Rattle.component_tags.specs.Spelled as spec;
 
 use component_draft::Draft;
 use component_items::{Count, Refusal, Why};
@@ -177,7 +177,7 @@ fn settle_name(
 }
 
 /// The first part of a tag or of the name of an attribute.
-pub(crate) fn accept_name(
+pub fn accept_name(
     draft: &mut Draft,
     lexer: &Lexer<'_>,
     terminal: Terminal,
@@ -194,7 +194,7 @@ pub(crate) fn accept_name(
 }
 
 /// A further part of one.
-pub(crate) fn accept_part(
+pub fn accept_part(
     draft: &mut Draft,
     lexer: &Lexer<'_>,
     terminal: Terminal,
@@ -211,7 +211,7 @@ pub(crate) fn accept_part(
 }
 
 /// The `-` within a name. Where the name never becomes whole, a number in it that is too great is refused here.
-pub(crate) fn accept_dash(
+pub fn accept_dash(
     draft: &mut Draft,
     lexer: &Lexer<'_>,
     token: Token,

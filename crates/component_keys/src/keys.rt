@@ -9,7 +9,7 @@ ghost use Rattle.component_meaning.specs.Names.{place_of as place_in};
 ghost use Rattle.text_grammar.specs.declared.kind.Kind.TheVariants.{Text};
 ghost use Rattle.text_grammar.specs.Class.{is_number, is_same};
 ghost use Rattle.text_grammar.specs.Kind.{kind_of};
-ghost use Rattle.component_tokens.specs.Keys.{text_key_or_refusal};
+ghost use Rattle.component_keys.specs.Keys.{text_key_or_refusal};
 
 use component_draft::Draft;
 use component_items::{Refusal, Why};
@@ -20,7 +20,7 @@ use token_parts::{add_found, check, content, negated, negated_next, number, plac
 use values::Code;
 
 /// Nothing, as a key.
-pub(crate) fn accept_empty_key(
+pub fn accept_empty_key(
     draft: &mut Draft,
     lexer: &Lexer<'_>,
     token: Token,
@@ -35,7 +35,7 @@ pub(crate) fn accept_empty_key(
 }
 
 /// A number, as a key.
-pub(crate) fn accept_number_key(
+pub fn accept_number_key(
     draft: &mut Draft,
     lexer: &Lexer<'_>,
     token: Token,
@@ -63,7 +63,7 @@ fn has_negated_key(draft: &Draft, lexer: &Lexer<'_>, next: Result<Token, BadToke
 }
 
 /// The `-` of a key: where the key that it begins is taken, this is where it is refused.
-pub(crate) fn accept_key_minus(
+pub fn accept_key_minus(
     draft: &mut Draft,
     lexer: &Lexer<'_>,
     token: Token,
@@ -77,7 +77,7 @@ pub(crate) fn accept_key_minus(
 }
 
 /// A number behind its `-`, as a key.
-pub(crate) fn accept_negated_key(
+pub fn accept_negated_key(
     draft: &mut Draft,
     lexer: &Lexer<'_>,
     token: Token,
@@ -93,7 +93,7 @@ pub(crate) fn accept_negated_key(
 }
 
 /// A text, as a key.
-pub(crate) fn accept_text_key(
+pub fn accept_text_key(
     draft: &mut Draft,
     alloc: Global,
     lexer: &Lexer<'_>,

@@ -1,3 +1,2 @@
 pub mod NegatedKeys
 pub mod TextKeys
-pub mod Whole

@@ -14,7 +14,7 @@ use Rattle.token_reader.specs.Rules.{Accepts}
 use Rattle.component_meaning.specs.State.{State}
 use Rattle.component_meaning.specs.Names.{bytes_of, goes_on, begins_name, continues_name, name_of, is_text, is_raw_tag, is_full, is_open_tag, has_attribute, first_of, wide_in}
 use Rattle.component_meaning.specs.Meaning.{accept_token}
-use Rattle.component_tokens.specs.Spelled.{beginning, extending, settled}
+use Rattle.component_tags.specs.Spelled.{beginning, extending, settled}
 
 -- a text that the table does not hold is the name of no attribute
 pub no_attribute : (bytes : List ℕ) (texts : List (List ℕ)) (attrs : List Attr) → index_of bytes texts ≡ None → list_any (λ b. is_text bytes texts (Some (name_of b))) attrs ≡ false

@@ -8,7 +8,7 @@ use Rattle.component_meaning.specs.State.{State}
 use Rattle.component_meaning.specs.Names.{content_in, place_of, is_full}
 use Rattle.component_meaning.specs.Checks.{has_text_key}
 use Rattle.component_meaning.specs.Meaning.{accept_token}
-use Rattle.component_tokens.specs.Keys.{text_key_or_refusal}
+use Rattle.component_keys.specs.Keys.{text_key_or_refusal}
 
 module _ (text : List ℕ) (a : State) (x : Token) (next : Lexed) where
   pub text_key : accept_token text terminal.TextKey a (Ok x) next ≡ text_key_or_refusal (content_in text x) (place_of x) a

@@ -1,6 +1,6 @@
 use Rattle.std.proofs.Common.{refl}
-use Rattle.component_tokens.proofs.NegatedKeys.{negated_key}
-use Rattle.component_tokens.proofs.keys.has_negated_key.Goals as goal
+use Rattle.component_keys.proofs.NegatedKeys.{negated_key}
+use Rattle.component_keys.proofs.keys.has_negated_key.Goals as goal
 
 pub returns-in-Some : goal.returns-in-Some
 returns-in-Some c = rw (negated_key, ← c.negated_next.ensures, c.in-Some.is, ← c.draft.view_is) c.contains.ensures

@@ -1,8 +1,8 @@
 use Rattle.std.proofs.Common.{sym, ap, ◌∙◌}
 use Rattle.component_meaning.specs.State.{State}
-use Rattle.component_tokens.specs.Spelled.{settled}
-use Rattle.component_tokens.proofs.Whole.{outcome, accepts_outcome, continued}
-use Rattle.component_tokens.proofs.tags.accept_part.Goals as goal
+use Rattle.component_tags.specs.Spelled.{settled}
+use Rattle.component_tags.proofs.Whole.{outcome, accepts_outcome, continued}
+use Rattle.component_tags.proofs.tags.accept_part.Goals as goal
 
 pub returns : goal.returns
 returns c =
