@@ -7,8 +7,8 @@ ghost use Rattle.component_meaning.specs.Size.{size};
 ghost use Rattle.component_frames.specs.Nest.{taking_numbered};
 
 use crate::blocks::add_spelled;
-use crate::expressions::take_whole;
 use component_draft::Draft;
+use component_expressions::take_whole;
 use component_items::Attr;
 use std::alloc::AllocError;
 

@@ -7,8 +7,8 @@ ghost use Rattle.component_meaning.specs.Names.{fields_of, id_of};
 ghost use Rattle.component_meaning.specs.Size.{size};
 ghost use Rattle.component_scope.specs.Scope.{what_of};
 
-use crate::expressions::take_whole;
 use component_draft::{Draft, Keys};
+use component_expressions::take_whole;
 use component_items::Item;
 use component_scope::{Declaration, Fields, Kind, SharedFields};
 use std::alloc::{AllocError, Global};
@@ -16,7 +16,7 @@ use std::mem;
 use values::{Codes, Numbers};
 
 /// Adds the item to the innermost block or element that is open, or else outside of them.
-pub(crate) fn with_item(draft: &mut Draft, item: Item) -> Result<(), AllocError>
+fn with_item(draft: &mut Draft, item: Item) -> Result<(), AllocError>
     ensures { OnOk result (draft.new ≡ spec.with_item item draft.old) }
 {
     draft.blocks.add_item(item)
@@ -32,7 +32,7 @@ fn with_numbered(draft: &mut Draft, item: Item, count: u32) -> Result<(), AllocE
 }
 
 /// The item that is read is seen from here on, with the id that comes next.
-pub(crate) fn known_as(draft: &mut Draft, kind: Kind) -> Result<(), AllocError>
+pub fn known_as(draft: &mut Draft, kind: Kind) -> Result<(), AllocError>
     requires { draft.old.next_id + 2 + length (fields_of (what_of kind)) < 2 ^ 32 }
     ensures { OnOk result (draft.new ≡ spec.known_as (what_of kind) draft.old) }
 {
@@ -41,7 +41,7 @@ pub(crate) fn known_as(draft: &mut Draft, kind: Kind) -> Result<(), AllocError>
 }
 
 /// The signal that is read is an item.
-pub(crate) fn make_signal(draft: &mut Draft) -> Result<(), AllocError>
+pub fn make_signal(draft: &mut Draft) -> Result<(), AllocError>
     requires { size draft.old < 2 ^ 31 }
     ensures { OnOk result (draft.new ≡ spec.perform action.MakeSignal draft.old) }
 {
@@ -55,7 +55,7 @@ pub(crate) fn make_signal(draft: &mut Draft) -> Result<(), AllocError>
 }
 
 /// The memo that is read is an item.
-pub(crate) fn make_memo(draft: &mut Draft) -> Result<(), AllocError>
+pub fn make_memo(draft: &mut Draft) -> Result<(), AllocError>
     requires { size draft.old < 2 ^ 31 }
     ensures { OnOk result (draft.new ≡ spec.perform action.MakeMemo draft.old) }
 {
@@ -70,7 +70,7 @@ pub(crate) fn make_memo(draft: &mut Draft) -> Result<(), AllocError>
 }
 
 /// The effect that is read is an item.
-pub(crate) fn make_effect(draft: &mut Draft) -> Result<(), AllocError>
+pub fn make_effect(draft: &mut Draft) -> Result<(), AllocError>
     requires { size draft.old < 2 ^ 31 }
     ensures { OnOk result (draft.new ≡ spec.perform action.MakeEffect draft.old) }
 {
@@ -85,7 +85,7 @@ pub(crate) fn make_effect(draft: &mut Draft) -> Result<(), AllocError>
 }
 
 /// The entries of a resource or a store begin.
-pub(crate) fn begin_entries(draft: &mut Draft, alloc: Global)
+pub fn begin_entries(draft: &mut Draft, alloc: Global)
     ensures { draft.new ≡ spec.perform action.BeginEntries draft.old }
 {
     draft.keys = Keys::new(alloc);
@@ -94,7 +94,7 @@ pub(crate) fn begin_entries(draft: &mut Draft, alloc: Global)
 }
 
 /// The last literal is the value of the last key, or the start of the last field.
-pub(crate) fn add_value(draft: &mut Draft) -> Result<(), AllocError>
+pub fn add_value(draft: &mut Draft) -> Result<(), AllocError>
     ensures { OnOk result (draft.new ≡ spec.perform action.AddValue draft.old) }
 {
     if draft.values.push(draft.literal).is_err() {
@@ -104,7 +104,7 @@ pub(crate) fn add_value(draft: &mut Draft) -> Result<(), AllocError>
 }
 
 /// The resource that is read is an item, which takes its keys and values.
-pub(crate) fn make_resource(draft: &mut Draft, alloc: Global) -> Result<(), AllocError>
+pub fn make_resource(draft: &mut Draft, alloc: Global) -> Result<(), AllocError>
     requires { size draft.old < 2 ^ 31 }
     ensures { OnOk result (draft.new ≡ spec.perform action.MakeResource draft.old) }
 {
@@ -122,7 +122,7 @@ pub(crate) fn make_resource(draft: &mut Draft, alloc: Global) -> Result<(), Allo
 }
 
 /// The load that is read is an item.
-pub(crate) fn make_load(draft: &mut Draft) -> Result<(), AllocError>
+pub fn make_load(draft: &mut Draft) -> Result<(), AllocError>
     requires { size draft.old < 2 ^ 31 }
     ensures { OnOk result (draft.new ≡ spec.perform action.MakeLoad draft.old) }
 {
@@ -148,7 +148,7 @@ fn used_id(draft: &Draft) -> u32
 }
 
 /// The store that is read is an item, which takes its fields and their starts.
-pub(crate) fn make_store(draft: &mut Draft, alloc: Global) -> Result<(), AllocError>
+pub fn make_store(draft: &mut Draft, alloc: Global) -> Result<(), AllocError>
     requires { size draft.old < 2 ^ 31 }
     ensures { OnOk result (draft.new ≡ spec.perform action.MakeStore draft.old) }
 {
@@ -169,7 +169,7 @@ pub(crate) fn make_store(draft: &mut Draft, alloc: Global) -> Result<(), AllocEr
 }
 
 /// The cleanup that is read is an item.
-pub(crate) fn make_cleanup(draft: &mut Draft) -> Result<(), AllocError>
+pub fn make_cleanup(draft: &mut Draft) -> Result<(), AllocError>
     ensures { OnOk result (draft.new ≡ spec.perform action.MakeCleanup draft.old) }
 {
     with_item(
@@ -181,7 +181,7 @@ pub(crate) fn make_cleanup(draft: &mut Draft) -> Result<(), AllocError>
 }
 
 /// The text that is read is an item.
-pub(crate) fn make_text(draft: &mut Draft) -> Result<(), AllocError>
+pub fn make_text(draft: &mut Draft) -> Result<(), AllocError>
     ensures { OnOk result (draft.new ≡ spec.perform action.MakeText draft.old) }
 {
     with_item(
@@ -193,7 +193,7 @@ pub(crate) fn make_text(draft: &mut Draft) -> Result<(), AllocError>
 }
 
 /// The value that is shown is an item.
-pub(crate) fn make_shown(draft: &mut Draft) -> Result<(), AllocError>
+pub fn make_shown(draft: &mut Draft) -> Result<(), AllocError>
     requires { size draft.old < 2 ^ 31 }
     ensures { OnOk result (draft.new ≡ spec.perform action.MakeShown draft.old) }
 {

@@ -63,7 +63,7 @@ fn with_if(alloc: Global, operands: &mut Stack<Expr>) -> Result<(), AllocError>
 }
 
 /// Takes the whole expression, which is the last operand.
-pub(crate) fn take_whole(draft: &mut Draft) -> Expr
+pub fn take_whole(draft: &mut Draft) -> Expr
     ensures whole { result ≡ spec.whole draft.old }
     ensures taken { draft.new ≡ spec.taken draft.old }
 {
@@ -71,21 +71,21 @@ pub(crate) fn take_whole(draft: &mut Draft) -> Expr
 }
 
 /// The last literal is an operand.
-pub(crate) fn make_literal(draft: &mut Draft) -> Result<(), AllocError>
+pub fn make_literal(draft: &mut Draft) -> Result<(), AllocError>
     ensures { OnOk result (draft.new ≡ record draft.old { operands = Expr.Lit draft.old.literal ∷ draft.old.operands }) }
 {
     draft.operands.push(Expr::Lit(draft.literal))
 }
 
 /// The operator stands between the last two operands.
-pub(crate) fn make_binary(draft: &mut Draft, alloc: Global, op: Op) -> Result<(), AllocError>
+pub fn make_binary(draft: &mut Draft, alloc: Global, op: Op) -> Result<(), AllocError>
     ensures { OnOk result (draft.new ≡ record draft.old { operands = spec.with_binary op draft.old.operands }) }
 {
     with_binary(alloc, op, &mut draft.operands)
 }
 
 /// The last three operands are the condition and what follows from it.
-pub(crate) fn make_if(draft: &mut Draft, alloc: Global) -> Result<(), AllocError>
+pub fn make_if(draft: &mut Draft, alloc: Global) -> Result<(), AllocError>
     ensures { OnOk result (draft.new ≡ record draft.old { operands = spec.with_if draft.old.operands }) }
 {
     with_if(alloc, &mut draft.operands)
