@@ -1,3 +1,5 @@
 pub mod Outcome
-pub mod Unbuilt
+pub mod StubState
+pub mod Stub
 pub mod Run
+pub mod Ending
