@@ -1,5 +1,5 @@
 -- What rows, owners and edits show of a phase on its way.
-use Rattle.std.specs.Prelude.{◌≡◌, ◌≢◌, ¬◌, ℕ, ◌-◌, true, false, List, [], length, slice_get, Some, None, replicate}
+use Rattle.std.specs.Prelude.{◌≡◌, ◌≢◌, ℕ, ◌-◌, true, false, List, [], length, slice_get, Some, None, replicate}
 use Rattle.values.specs.declared.code.Code.{Code}
 use Rattle.values.specs.declared.plan.Kind.{Kind}
 use Rattle.values.specs.declared.plan.Kind.TheVariants as kind
@@ -9,8 +9,8 @@ use Rattle.values.specs.Packing.{unpacked}
 use Rattle.store_fields.specs.declared.edit.Edit.{Edit}
 use Rattle.script_items.specs.Script.{numbered}
 use Rattle.sources.specs.declared.opening.Opened as rows
-use Rattle.sources.specs.Rows.{value_in}
 use Rattle.run_meaning.specs.Merge.{changed_to}
+use Rattle.run_meaning.specs.Told.{IsCurrent}
 use Rattle.run_history.specs.Going.{Start, Going, opened_at, Numbered, latest_code, shown_number, last_value, IsDead, edits_by}
 use Rattle.phase_graph.specs.Graph.{GraphState}
 
@@ -35,6 +35,8 @@ pub record IsOnWay (s : Start) (g : Going) (x : GraphState) : Type 0 where
   pub entries : x.entries ≡ g.entries
   pub numbered_so : Numbered 0 g.entries g.drawn
   pub shown : (n : ℕ) (node : PlanNode) (row : rows.Opened) → slice_get s.plan.nodes n ≡ Some node → slice_get x.rows n ≡ Some row → ShowsAs node.kind s g.entries x.base n row
+  -- no effect's value is asked for
+  pub current : (n : ℕ) (node : PlanNode) (row : rows.Opened) → slice_get s.plan.nodes n ≡ Some node → slice_get x.rows n ≡ Some row → node.kind ≢ kind.Effect → IsCurrent (opened_at s) g.entries n (unpacked row.code) (row.version - x.base)
   pub dead : (owner : ℕ) → slice_get x.live owner ≡ Some false → IsDead s g.entries owner
   pub alive : (owner : ℕ) → slice_get x.live owner ≡ Some true → ¬ IsDead s g.entries owner
   pub noted_edits : (pass : ℕ) (edits : List Edit) → numbered x.edits pass ≡ Some edits → length edits ≡ edits_by pass g.entries

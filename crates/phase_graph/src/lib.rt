@@ -3,6 +3,13 @@
 
 mod between;
 mod calls;
+mod disposal;
+mod edits;
+mod getting;
 mod graph;
+mod making;
+mod phases;
+mod table;
+mod writing;
 
 pub use graph::Graph;

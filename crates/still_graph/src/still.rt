@@ -1,4 +1,25 @@
 //! The object.
+ghost use Rattle.std.specs.Prelude.{◌≡◌, ◌≢◌, [], IfOk, IfErr, slice_get};
+ghost use Rattle.std.specs.Option.{option_map, option_copied};
+ghost use Rattle.values.specs.Packing.{unpacked};
+ghost use Rattle.component_items.specs.Kept.{IsKept};
+ghost use Rattle.held_state.specs.State.{IsOf, first_state};
+ghost use Rattle.plain_evaluation.specs.Written.{state_of};
+ghost use Rattle.plan_meaning.specs.Layout.{plan_of};
+ghost use Rattle.phase_graph.specs.Graph.{ticks_of};
+ghost use Rattle.still_graph.specs.Still.{opened_in};
+ghost use Rattle.still_graph.specs.Answers.{target_of};
+
+use crate::begun::Begun;
+use crate::journal::Journal;
+use component_items::Component;
+use held_state::Held;
+use node_names::{Names, NodePlace};
+use phase_graph::Graph;
+use sources::{Body, Colour};
+use std::alloc::Global;
+use std::marker::Model;
+use values::{Code, NoMemory, Plan};
 
 /// How far a graph is.
 #[derive(Clone, Copy, Debug, PartialEq, Eq)]
@@ -28,19 +49,33 @@ pub enum Target {
 /// journal, and how far it is.
 #[derive(Drop)]
 pub struct Still {
-    component: Component,
-    held: Held,
-    names: Names,
-    graph: Graph,
-    journal: Journal,
-    stage: Stage,
-    // what `target` needs: the owner of each id
+    pub(crate) component: Component,
+    pub(crate) held: Held,
+    pub(crate) names: Names,
+    pub(crate) graph: Graph,
+    pub(crate) journal: Journal,
+    pub(crate) stage: Stage,
 }
 
-// impl Model for Still { Value = StillState; view; invariant IsStill }
+impl Model for Still {
+    ghost use Rattle.std.specs.Coded.{codes};
+    ghost use Rattle.component_items.specs.contracts.component.Component as parts_model;
+    ghost use Rattle.held_state.specs.contracts.held.Held as held_model;
+    ghost use Rattle.phase_graph.specs.contracts.graph.Graph as graph_model;
+    ghost use Rattle.still_graph.specs.Still.{StillState};
+    ghost use Rattle.still_graph.specs.Stands.{still_of, IsStill};
+
+    ghost Value = { StillState };
+
+    ghost coded = { Prim.hlevel (codes, parts_model.the_row.coded, held_model.the_row.coded, graph_model.the_row.coded) };
+
+    ghost view = { λ s. still_of s.component s.held s.names s.graph s.journal.phases s.stage };
+
+    ghost invariant = { λ s. IsStill (still_of s.component s.held s.names s.graph s.journal.phases s.stage) s.journal.spare };
+}
 
 impl Still {
-    /// The graph of the component before anything ran.
+    /// The graph of the component before anything ran. After want of memory the component is handed back.
     pub fn new(alloc: Global, component: Component) -> Result<Still, (Component, NoMemory)>
         ensures component { IfOk result (λ still. still.component ≡ component) }
         ensures state { IfOk result (λ still. still.state ≡ first_state component) }
@@ -48,78 +83,128 @@ impl Still {
         ensures stage { IfOk result (λ still. still.stage ≡ Stage.Made) }
         ensures ticks { IfOk result (λ still. ticks_of still.graph ≡ 0) }
         ensures back { IfErr result (λ back. back.0 ≡ component) }
+    {
+        match Begun::new(alloc, &component) {
+            Ok(begun) => Ok(Still::of(component, begun)),
+            Err(no_memory) => Err((component, no_memory)),
+        }
+    }
 
-    pub fn component(&self) -> &Component          // result.now ≡ self.now.component
-    pub fn held(&self) -> &Held                    // result.now ≡ self.now.state
-    pub fn plan(&self) -> &Plan                    // result.now ≡ self.now.graph.plan
-    pub fn journal(&self) -> &Journal              // result.now ≡ self.now.journal
-    pub fn into_journal(self) -> Journal           // result ≡ self.journal
-    pub fn stage(&self) -> Stage                   // result ≡ self.now.stage
-    pub fn ticks(&self) -> u64                     // result ≡ ticks_of self.now.graph
-    // and value, version, colour, body by row: None exactly where there is no such row
+    /// The component.
+    pub fn component(&self) -> &Component
+        ensures component { result.now ≡ self.now.component }
+        ensures kept { IsKept self.now.component }
+    {
+        &self.component
+    }
+
+    /// The held state behind the last settling, or the first one.
+    pub fn held(&self) -> &Held
+        ensures state { result.now ≡ self.now.state }
+        ensures fits { IsOf self.now.component self.now.state }
+    {
+        &self.held
+    }
+
+    /// The plan.
+    pub fn plan(&self) -> &Plan
+        ensures plan { result.now ≡ self.now.graph.plan }
+        ensures laid_out { self.now.graph.plan ≡ plan_of self.now.component (state_of self.now.state.held) }
+    {
+        self.graph.plan()
+    }
+
+    /// The journal.
+    pub fn journal(&self) -> &Journal
+        ensures { result.now.phases ≡ self.now.journal }
+    {
+        &self.journal
+    }
+
+    /// The journal alone.
+    pub fn into_journal(self) -> Journal
+        ensures { result.phases ≡ self.journal }
+    {
+        let Still { journal, .. } = self;
+        journal
+    }
+
+    /// How far the graph is.
+    pub fn stage(&self) -> Stage
+        ensures { result ≡ self.now.stage }
+    {
+        self.stage
+    }
+
+    /// The count of ticks: of new values that rows have taken.
+    pub fn ticks(&self) -> u64
+        ensures { result ≡ ticks_of self.now.graph }
+    {
+        self.graph.ticks()
+    }
+
+    /// The value of a row. `None` exactly where there is no such row.
+    pub fn value(&self, row: u32) -> Option<Code>
+        ensures { result ≡ option_map (λ kept. unpacked kept.code) (slice_get self.now.graph.rows row) }
+    {
+        self.graph.value(row)
+    }
+
+    /// The version of a row's value: the count of ticks when it came. `None` exactly where there is no such row.
+    pub fn version(&self, row: u32) -> Option<u64>
+        ensures { result ≡ option_map (λ kept. kept.version) (slice_get self.now.graph.rows row) }
+    {
+        Some(self.graph.row(row)?.version)
+    }
+
+    /// What is known of a row's value. `None` exactly where there is no such row.
+    pub fn colour(&self, row: u32) -> Option<Colour>
+        ensures { result ≡ option_map (λ kept. kept.colour) (slice_get self.now.graph.rows row) }
+    {
+        Some(self.graph.row(row)?.colour)
+    }
+
+    /// What the last run of a row read, and why it ran. `None` exactly where there is no such row.
+    pub fn body(&self, row: u32) -> Option<&Body>
+        ensures { option_copied result ≡ option_map (λ kept. kept.body) (slice_get self.now.graph.rows row) }
+    {
+        Some(&self.graph.row(row)?.body)
+    }
 
     /// What the id stands for, with the key of a store row or with none.
     pub fn target(&self, id: u32, key: Option<Code>) -> Target
         requires { self.now.stage ≢ Stage.Ended }
         ensures { target_of result ≡ (opened_in self.now).target id key }
+    {
+        match self.names.row(NodePlace::new(id, key)) {
+            Some(row) => Target::Row(row),
+            None => Target::NoRow,
+        }
+    }
 }
 
-// ---- settling.rt
-
-/// Why a load is pending.
-pub enum Late { NotYet, Failed }
-/// The loads that are pending, with why, in order of declaration.
-pub type Pending = Sequence<(u32, Late)>;
-pub enum Settled { Whole, Waiting(Pending) }
-
 impl Still {
-    /// Settles the graph. It works with no loads, edits and disposals yet.
-    pub fn settle<L: Loader>(&mut self, alloc: Global, loader: &mut L) -> Result<Settled, NoMemory>
-        requires closed { self.old.stage ≢ Stage.Open }
-        requires ticks { ticks_of self.old.graph < 2 ^ 62 }
-        requires no_loads { has_load self.old.component.items ≡ false }      // a definition of its own, with a test in code; falls with the loads
-        ensures component { self.new.component ≡ self.old.component }
-        ensures first { OnOk result (self.old.stage ≡ Stage.Made → (keys : ℕ → Option Code) × (self.new.state.held ≡ held_arrived keys self.old.state.held) × IsSettledAfter [] self.new) }
-        ensures after { OnOk result ((past : List Phase) (p : Phase) → HasEnded past p self.old → (keys : ℕ → Option Code) × (self.new.state.held ≡ after self.old.component p keys) × IsSettledAfter (past ++ p ∷ []) self.new) }
-        ensures again { OnOk result (self.old.stage ≡ Stage.Settled → (keys : ℕ → Option Code) × (self.new.state.held ≡ held_arrived keys self.old.state.held) × ((past : List Phase) → IsSettledAfter past self.old → IsSettledAfter past self.new)) }
-        ensures pending { OnOk: the ids of the answer (none at Whole) ≡ pending self.new.component self.new.state.held }
-        ensures ticks_raised { ticks_of self.new.graph ≤ ticks_of self.old.graph + 16384 }
-        ensures unchanged { OnErr result (self.new ≡ self.old) }
-}
+    ghost use Rattle.still_graph.specs.Stands.{still_of, IsStill};
+    ghost use Rattle.still_graph.specs.declared.still.Stage.TheVariants.{Made};
 
-// ---- phases.rt
-
-impl Still {
-    pub fn begin(&mut self, alloc: Global, passes: u32, edits: u32) -> Result<(), NoMemory>
-        requires settled { self.old.stage ≡ Stage.Settled }
-        requires passes { 1 ≤ passes × passes ≤ 16 }
-        requires edits { edits ≤ 65537 }
-        requires ticks { ticks_of self.old.graph < 2 ^ 62 }
-        requires few { length self.old.journal < 2 ^ 31 }
-        ensures opened { OnOk result ((past : List Phase) → IsSettledAfter past self.old → IsOpenAt past just_opened self.new) }
-        ensures rest { OnOk result (self.new ≡ record self.old { stage = Stage.Open; graph = self.new.graph }) }
-        ensures base { OnOk result (self.new.graph.base ≡ ticks_of self.old.graph) }
-        ensures passes_are { OnOk result (length self.new.graph.edits ≡ passes) }
-        ensures unchanged { OnErr result (self.new ≡ self.old) }
-
-    pub fn set(&mut self, signal: u32, code: Code) -> Result<u32, Stop>
-        requires open { self.old.stage ≡ Stage.Open }
-        requires row { IsSomeAnd (slice_get self.old.graph.plan.nodes signal) (λ node. (node.kind ≡ kind.Signal) ⊎ (node.kind ≡ kind.Field)) }
-        ensures rest { self.new ≡ record self.old { graph = self.new.graph } }
-        ensures stays { StaysOpen self.old.graph self.new.graph }
-        ensures call { (past : List Phase) (g : Going) (pass : ℕ) → IsOpenAt past g self.old → (block : List NotedValue) × (h : Going) × Calls (start_in past self.old) g block h pass (set signal code result) × IsOpenAt past h self.new }
-
-    pub fn get(&mut self, node: u32) -> Result<(Code, u32), Stop>
-        requires open; requires row { IsSomeAnd (slice_get self.old.graph.plan.nodes node) (λ n. n.kind ≢ kind.Effect) }
-        ensures rest, stays, call as of set, with (get node result)
-
-    // pump, dispose and edit follow when settling takes them
-
-    pub fn end(&mut self)
-        requires open { self.old.stage ≡ Stage.Open }
-        ensures component { self.new.component ≡ self.old.component }
-        ensures state { self.new.state ≡ self.old.state }
-        ensures ticks { ticks_of self.new.graph ≡ ticks_of self.old.graph }
-        ensures ended { (past : List Phase) (p : Phase) → p.opened ≡ opened_in self.old → IsOpenAt past (record { drawn = p.drawn; entries = p.entries }) self.old → p.base ≡ self.old.graph.base
-            → p.counts ≡ replicate (length self.old.graph.edits) (record { meets = 0; remarks = 0 }) → HasEnded past p self.new }
+    /// The graph of these parts.
+    fn of(component: Component, begun: Begun) -> Still
+        requires { IsStill (still_of component begun.held begun.names begun.graph begun.journal.phases Made) begun.journal.spare }
+        ensures { result ≡ still_of component begun.held begun.names begun.graph begun.journal.phases Made }
+    {
+        let Begun {
+            held,
+            names,
+            graph,
+            journal,
+        } = begun;
+        Still {
+            component,
+            held,
+            names,
+            graph,
+            journal,
+            stage: Stage::Made,
+        }
+    }
 }
