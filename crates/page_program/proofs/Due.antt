@@ -1,5 +1,5 @@
 -- What is due for an input that was read.
-use Rattle.std.proofs.Common.{◌≡◌, ◌⊎◌, ◌∙◌, ℕ, ◌≤◌, ◌++◌, Bool, List, [], ◌∷◌, length, length-append, Option, Some, None, IfSome, Result, Ok, Err, codes, refl, sym, ap, subst, arith, inl, inr}
+use Rattle.std.proofs.Common.{◌≡◌, ◌∙◌, ℕ, ◌≤◌, ◌++◌, Bool, List, [], ◌∷◌, length, length-append, Option, Some, None, IfSome, Result, Ok, Err, codes, refl, sym, ap, subst, arith, inl, inr}
 use Rattle.std.specs.Prelude.{IfOk, MatchResult}
 use Rattle.std.specs.List.{flat_map}
 use Rattle.std.specs.Io.KnownBytes.{Consumes, IsAtEnd}
@@ -15,10 +15,11 @@ use Rattle.run_meaning.specs.Run.{phases_of}
 use Rattle.run_meaning.specs.Ending.{report_if, waiting_line}
 use Rattle.page_program.specs.declared.finish.Outcome.{Outcome}
 use Rattle.page_program.specs.declared.finish.Outcome.TheVariants.{Page, BadWords, BadText, Waiting, Unbuilt, ReadFault, WriteFault, NoMemory, TooLong}
-use Rattle.page_program.specs.declared.run_stub.Ran.{Ran}
+use Rattle.script_run.specs.declared.run.Ran.{Ran}
 use Rattle.page_program.specs.Outcome.{own_line, bad_text_line}
 use Rattle.page_program.specs.Run.{Reading, Input, Means, IsReadAs, IsBad, IsBuilt, GivesEnd, GivesInput, GivesTooMany, GaveAll, StandForSome, StandForNone, Request, Account, nothing_run, WasRun, IsRunDue, IsDue, component_of}
-use Rattle.page_program.specs.Stub.{IsRanTo, RunsToday}
+use Rattle.script_run.specs.Ran.{IsRanTo}
+use Rattle.script_run.specs.Today.{RunsToday}
 
 -- ---- what was read
 

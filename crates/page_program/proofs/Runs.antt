@@ -1,5 +1,5 @@
 -- What a run that ended says of its words and of the bytes of its source.
-use Rattle.std.proofs.Common.{◌≡◌, ◌⊎◌, ◌∙◌, ℕ, ◌+◌, ◌<◌, ◌≤◌, Bool, true, false, List, [], ◌++◌, length, length-append, Option, Some, None, IfSome, refl, sym, ap, ap₂, subst, arith, inl, inr}
+use Rattle.std.proofs.Common.{◌≡◌, ◌∙◌, ℕ, ◌<◌, ◌≤◌, true, List, [], length, length-append, Option, Some, None, IfSome, refl, sym, ap, ap₂, subst, arith, inl, inr}
 use Rattle.values.specs.declared.limits.TheConstants.{MOST_INPUT_BYTES}
 use Rattle.component_items.specs.declared.component.Component.{Component}
 use Rattle.component_items.specs.declared.refusal.Place.{Place}

@@ -1,5 +1,3 @@
 pub mod Outcome
-pub mod StubState
-pub mod Stub
 pub mod Run
 pub mod Ending

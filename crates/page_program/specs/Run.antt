@@ -19,7 +19,7 @@ use Rattle.run_meaning.specs.Ending.{EndsWithPage, EndsWaiting}
 use Rattle.page_program.specs.declared.finish.Outcome.{Outcome}
 use Rattle.page_program.specs.declared.finish.Outcome.TheVariants.{Page, BadWords, BadText, Waiting, Unbuilt, ReadFault, WriteFault, NoMemory, TooLong}
 use Rattle.page_program.specs.Outcome.{own_line}
-use Rattle.page_program.specs.Stub.{RunsToday}
+use Rattle.script_run.specs.Today.{RunsToday}
 
 -- what a call did to its source: the bytes that it held before and after, where it tells them, and the
 -- counts of its faults before and after

@@ -10,19 +10,20 @@ ghost use Rattle.run_meaning.specs.Ending.{waiting_line};
 ghost use Rattle.page_program.specs.Ending.{text_of, ending_account};
 ghost use Rattle.page_program.specs.Outcome.{own_line};
 ghost use Rattle.page_program.specs.Run.{Reading, Input as InputValue, GaveAll, GivesEnd, StandForSome, IsBad, IsReadAs, IsRunDue, IsDue, component_of};
-ghost use Rattle.page_program.specs.Stub.{IsRanTo};
+ghost use Rattle.script_run.specs.Ran.{IsRanTo};
 
 use crate::ending::{Ending, Text};
 use crate::finish::{Outcome, bad_text_line};
 use crate::input::{Input, read_input};
-use crate::run_stub::{Ran, Still, run_script, runs_today};
 use command_words::Settings;
 use component_items::{Place, Refusal};
 use outside::{Gate, Loader};
 use plain_page::held_page_bytes;
 use report_text::put_waiting;
 use run_items::Answers;
+use script_run::{Ran, run_script, runs_today};
 use std::alloc::Global;
+use still_graph::Still;
 use values::NoMemory;
 
 /// The report, and behind it the page of what the graph holds.

@@ -6,9 +6,9 @@ ghost use Rattle.page_program.specs.Ending as spec;
 ghost use Rattle.page_program.specs.Run.{nothing_run};
 
 use crate::finish::Outcome;
-use crate::run_stub::Journal;
 use run_items::Answers;
 use std::alloc::Global;
+use still_graph::Journal;
 
 /// The line of words that are not the command's.
 pub const USAGE: &[u8] = b"usage: page [-a] [--rounds N] | page big N\n";

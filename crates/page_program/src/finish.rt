@@ -4,10 +4,10 @@ ghost use Rattle.std.specs.Prelude.{◌≡◌, IfOk};
 ghost use Rattle.std.specs.String.{string_bytes};
 ghost use Rattle.page_program.specs.Outcome as spec;
 
-use crate::run_stub::Journal;
 use component_items::Place;
 use run_items::Answers;
 use std::alloc::{AllocError, Global};
+use still_graph::Journal;
 use values::Numbers;
 
 /// How a run of the program ended. Each outcome but `Page`, `Waiting` and `WriteFault` writes a line of its own, and

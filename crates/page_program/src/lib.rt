@@ -6,7 +6,6 @@ mod ending;
 mod finish;
 mod input;
 mod run;
-mod run_stub;
 
 pub use finish::{Finish, Outcome};
 pub use run::page;

@@ -177,7 +177,7 @@ fn faults_end_the_run(rt: HostRuntime) -> Result<(), Fail> {
         let (finish, bytes) = run_with(&rt, &[], input, 1, &[], &[k])?;
         assert_eq!(rt; finish.status, 6);
         assert!(rt; matches!(finish.outcome, Outcome::WriteFault));
-        assert!(rt; finish.journal.is_none());
+        assert!(rt; finish.journal.is_some());
         assert_eq!(rt; bytes.len(), k as usize - 1);
         assert!(rt; b"<p>6</p>".starts_with(bytes.as_slice()));
     }

@@ -1,7 +1,7 @@
 use Rattle.std.proofs.Common.{rules, ap}
 use Rattle.page_program.specs.Ending.{bytes_of, text_of, ending_account}
 use Rattle.page_program.specs.Run.{Means}
-use Rattle.page_program.specs.Stub.{RunsToday}
+use Rattle.script_run.specs.Today.{RunsToday}
 use Rattle.page_program.proofs.Due.{gives_end, unbuilt_due, unbuilt_at, run_of_read}
 use Rattle.page_program.proofs.answer.answer_to.Goals as goal
 

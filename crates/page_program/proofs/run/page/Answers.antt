@@ -1,7 +1,7 @@
-use Rattle.std.proofs.Common.{ℕ, List, subst}
+use Rattle.std.proofs.Common.{ℕ, List}
 use Rattle.std.specs.Io.KnownBytes.{Appends}
 use Rattle.command_words.specs.Words.{texts_of}
-use Rattle.page_program.specs.declared.finish.Outcome.TheVariants.{Page, BadWords, BadText, Waiting, Unbuilt, ReadFault, WriteFault, NoMemory, TooLong}
+use Rattle.page_program.specs.declared.finish.Outcome.TheVariants.{Page, BadWords, BadText, Waiting, Unbuilt, ReadFault, TooLong}
 use Rattle.page_program.specs.Ending.{text_of, ending_account, account_of}
 use Rattle.page_program.proofs.Runs as runs
 use Rattle.page_program.proofs.run.page.Goals as goal
