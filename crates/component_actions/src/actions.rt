@@ -6,12 +6,12 @@ ghost use Rattle.component_meaning.specs.Size.{size};
 
 use crate::attributes::{make_bare, make_fixed, make_shown_attribute, name_attribute};
 use crate::blocks::{open_area, open_each, open_element, open_if};
-use crate::expressions::{make_binary, make_if, make_literal};
-use crate::items::{
+use component_draft::Draft;
+use component_expressions::{make_binary, make_if, make_literal};
+use leaf_items::{
     add_value, begin_entries, make_cleanup, make_effect, make_load, make_memo, make_resource,
     make_shown, make_signal, make_store, make_text,
 };
-use component_draft::Draft;
 use std::alloc::{AllocError, Global};
 use text_grammar::component::Action;
 

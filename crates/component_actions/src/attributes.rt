@@ -4,11 +4,11 @@ ghost use Rattle.std.specs.Prelude.{◌≡◌, ◌+◌, ◌<◌, ◌^◌, OnOk};
 ghost use Rattle.text_grammar.specs.declared.component.Action.TheVariants as action;
 ghost use Rattle.component_meaning.specs.Actions as spec;
 ghost use Rattle.component_meaning.specs.Size.{size};
-ghost use Rattle.component_blocks.specs.Nest.{taking_numbered};
+ghost use Rattle.component_frames.specs.Nest.{taking_numbered};
 
 use crate::blocks::add_spelled;
-use crate::expressions::take_whole;
 use component_draft::Draft;
+use component_expressions::take_whole;
 use component_items::Attr;
 use std::alloc::AllocError;
 

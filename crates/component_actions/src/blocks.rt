@@ -7,10 +7,10 @@ ghost use Rattle.component_meaning.specs.Names.{rows_from, number_with};
 ghost use Rattle.component_meaning.specs.Size.{size};
 ghost use Rattle.values.specs.Texts.{with_text};
 
-use crate::expressions::take_whole;
-use crate::items::known_as;
-use component_blocks::{Kind, Rows};
 use component_draft::Draft;
+use component_expressions::take_whole;
+use component_scope::{Kind, Rows};
+use leaf_items::known_as;
 use std::alloc::{AllocError, Global};
 
 /// The area that is read is open from here on.

@@ -4,7 +4,5 @@
 mod actions;
 mod attributes;
 mod blocks;
-mod expressions;
-mod items;
 
 pub use actions::perform;

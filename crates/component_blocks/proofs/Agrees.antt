@@ -5,7 +5,7 @@ use Rattle.component_items.specs.declared.component.Attr.{Attr}
 use Rattle.component_items.specs.declared.component.Item.{Item}
 use Rattle.component_meaning.specs.State.{State, What, Declared, Frame, area_frame, if_frame, each_frame, element_frame, Open}
 use Rattle.component_meaning.specs.Actions.{with_item, known_as, with_open, closed, with_attr, item_of}
-use Rattle.component_blocks.specs.Nest.{nest_in, with_nest, declaring, holding, opening, closing, taking_numbered}
+use Rattle.component_frames.specs.Nest.{nest_in, with_nest, declaring, holding, opening, closing, taking_numbered}
 
 holds : (i : Item) (a : State) (opened : List Open) → with_item i (record a { opened = opened }) ≡ with_nest (holding i (nest_in (record a { opened = opened }))) (record a { opened = opened })
 holds i a [] = refl

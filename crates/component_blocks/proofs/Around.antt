@@ -3,9 +3,9 @@ use Rattle.std.proofs.Common.{◌≡◌, ℕ, suc, ◌+◌, ◌-◌, ◌≤◌, 
 use Rattle.std.proofs.lemmas.List.{length-reverse, length-drop, drop-drop}
 use Rattle.component_items.specs.Kept.{Standing, may_have_each}
 use Rattle.component_meaning.specs.State.{Declared, Open, Frame, area_frame, if_frame, each_frame, element_frame, Rows, standing_in, rows_in, inside, rows_of}
-use Rattle.component_blocks.specs.declared.block.Block.{Block}
-use Rattle.component_blocks.specs.Blocks.{frame_of, opened_in, KnowsAround, all_blocks, is_branch}
-use Rattle.component_blocks.specs.Scope.{oldest}
+use Rattle.component_frames.specs.declared.block.Block.{Block}
+use Rattle.component_frames.specs.Blocks.{frame_of, opened_in, KnowsAround, all_blocks, is_branch}
+use Rattle.component_scope.specs.Scope.{oldest}
 
 or_false : (b : Bool) → (b || false) ≡ b
 or_false true = refl

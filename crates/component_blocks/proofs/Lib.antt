@@ -1,4 +1,3 @@
-pub mod Places
 pub mod Around
 pub mod Whole
 pub mod Agrees

@@ -1,11 +1,11 @@
 -- What each step keeps.
 use Rattle.std.proofs.Common.{◌≡◌, ℕ, Bool, true, false, Option, Some, None, if◌then◌else◌, Result, Ok, Err, OnOk, OnErr, List, [], ◌∷◌, length, refl, sym, ap, ◌∙◌, subst}
 use Rattle.component_meaning.specs.State.{Declared, Open, standing_in, rows_in, inside, rows_of}
-use Rattle.component_blocks.specs.declared.block.Block.{Block}
+use Rattle.component_frames.specs.declared.block.Block.{Block}
 use Rattle.component_blocks.specs.declared.blocks.Blocks.TheInside.{Inside}
-use Rattle.component_blocks.specs.Nest.{Nest, declaring, opening}
-use Rattle.component_blocks.specs.Scope.{oldest}
-use Rattle.component_blocks.specs.Blocks.{frame_of, opened_in, KnowsAround, all_blocks}
+use Rattle.component_frames.specs.Nest.{Nest, declaring, opening}
+use Rattle.component_scope.specs.Scope.{oldest}
+use Rattle.component_frames.specs.Blocks.{frame_of, opened_in, KnowsAround, all_blocks}
 use Rattle.component_blocks.specs.Whole.{nest, IsWhole}
 use Rattle.component_blocks.proofs.Around.{declared_more, opened_more, around_more, around_opened, all_seen}
 

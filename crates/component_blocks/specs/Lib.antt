@@ -1,5 +1,1 @@
-pub mod Nest
-pub mod Scope
-pub mod Seen
-pub mod Blocks
 pub mod Whole

@@ -4,15 +4,13 @@ ghost use Rattle.std.specs.Prelude.{◌≡◌, ◌==◌, [], ◌∷◌, ◌++◌
 ghost use Rattle.std.specs.Option.{option_copied};
 ghost use Rattle.component_items.specs.Kept as stand;
 ghost use Rattle.component_meaning.specs.State.{area_frame, if_frame, each_frame, element_frame, inside, standing_in, rows_in, rows_of, open_tag};
-ghost use Rattle.component_blocks.specs.Nest.{empty, has_attr, declaring, holding, opening, closing, is_element, may_take_attr, taking};
-ghost use Rattle.component_blocks.specs.Scope.{oldest};
-ghost use Rattle.component_blocks.specs.Blocks.{frame_of, all_blocks};
+ghost use Rattle.component_frames.specs.Nest.{empty, has_attr, declaring, holding, opening, closing, is_element, may_take_attr, taking};
+ghost use Rattle.component_scope.specs.Scope.{oldest};
+ghost use Rattle.component_frames.specs.Blocks.{frame_of, all_blocks};
 
-use crate::attributes::Attributes;
-use crate::block::{Block, Frame};
-use crate::rows::Rows;
-use crate::scope::{Declaration, Scope};
+use component_frames::{Attributes, Block, Frame};
 use component_items::{Attr, Item, Items};
+use component_scope::{Declaration, Rows, Scope};
 use grammar::Stack;
 use std::alloc::{AllocError, Global};
 use std::marker::Model;
@@ -30,7 +28,7 @@ pub struct Blocks {
 }
 
 impl Model for Blocks {
-    ghost use Rattle.component_blocks.specs.Nest.{Nest};
+    ghost use Rattle.component_frames.specs.Nest.{Nest};
     ghost use Rattle.component_items.specs.contracts.component.Item as item;
     ghost use Rattle.values.specs.contracts.expr.Expr as expr;
     ghost use Rattle.std.specs.Coded.{codes};

@@ -6,7 +6,7 @@ ghost use Rattle.component_items.specs.declared.component.Attr.{Attr as AttrValu
 ghost use Rattle.component_items.specs.declared.component.Item.{Item as ItemValue};
 ghost use Rattle.component_meaning.specs.State.{State, What, Frame};
 ghost use Rattle.component_meaning.specs.Actions.{with_item, known_as, with_open, closed, with_attr};
-ghost use Rattle.component_blocks.specs.Nest.{nest_in, with_nest, declaring, holding, opening, closing, taking_numbered};
+ghost use Rattle.component_frames.specs.Nest.{nest_in, with_nest, declaring, holding, opening, closing, taking_numbered};
 
 /// An item, a declaration and the end of a block do nothing else to a state.
 pub fn parts_of_a_state()

@@ -5,8 +5,9 @@ ghost use Rattle.component_meaning.specs.State.{start};
 
 use crate::keys::Keys;
 use crate::spelling::Spelling;
-use component_blocks::{Blocks, Declaration, Fields};
+use component_blocks::Blocks;
 use component_items::Items;
+use component_scope::{Declaration, Fields};
 use grammar::Stack;
 use std::alloc::Global;
 use std::marker::Model;

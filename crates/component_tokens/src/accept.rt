@@ -9,19 +9,19 @@ ghost use Rattle.component_meaning.specs.Meaning as meaning;
 ghost use Rattle.component_meaning.specs.Names.{place_of};
 
 use crate::declarations::{accept_new_area, accept_new_field, accept_new_name};
-use crate::keys::{
-    accept_empty_key, accept_key_minus, accept_negated_key, accept_number_key, accept_text_key,
-};
 use crate::literals::{
     accept_empty_literal, accept_negated_literal, accept_number_literal, accept_text_literal,
     count_token,
 };
 use crate::numbers::{accept_after_number, accept_max_number};
-use crate::tags::{accept_dash, accept_name, accept_part};
 use crate::uses::{accept_row_field, accept_used_name, accept_used_resource, accept_used_store};
 use crate::written::accept_written;
 use component_draft::Draft;
 use component_items::{Refusal, Why};
+use component_keys::{
+    accept_empty_key, accept_key_minus, accept_negated_key, accept_number_key, accept_text_key,
+};
+use component_tags::{accept_dash, accept_name, accept_part};
 use std::alloc::Global;
 use text_grammar::component::Terminal;
 use text_lexer::{BadToken, Lexer, Token};

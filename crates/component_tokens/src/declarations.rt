@@ -7,9 +7,9 @@ ghost use Rattle.token_reader.specs.Rules.{Accepts};
 ghost use Rattle.component_meaning.specs.Meaning.{accept_token};
 ghost use Rattle.component_meaning.specs.Names.{declared_as};
 
-use component_blocks::Declaration;
 use component_draft::Draft;
 use component_items::{Count, Refusal, Why};
+use component_scope::Declaration;
 use text_grammar::component::Terminal;
 use text_lexer::{BadToken, Lexer, Token};
 use token_parts::{add_found, check, is_key, place_of, refused};

@@ -3,10 +3,8 @@
 
 mod accept;
 mod declarations;
-mod keys;
 mod literals;
 mod numbers;
-mod tags;
 mod uses;
 mod written;
 

@@ -8,9 +8,9 @@ ghost use Rattle.component_meaning.specs.Names.{bytes_of, place_of, declared_as,
 
 use crate::declarations::declared;
 use crate::literals::count_token;
-use component_blocks::Declaration;
 use component_draft::Draft;
 use component_items::{Refusal, Why};
+use component_scope::Declaration;
 use text_grammar::component::Terminal;
 use text_lexer::{BadToken, Lexer, Token};
 use token_parts::{check, is_key, refused};

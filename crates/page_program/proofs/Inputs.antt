@@ -1,6 +1,6 @@
 -- What was read of an input.
 use Rattle.std.proofs.lemmas.List.{take_all, length-drop}
-use Rattle.std.proofs.Common.{arith, ◌-◌, ◌≡◌, ◌∙◌, ℕ, ◌+◌, ◌≤◌, List, take, drop, length, sym, ap, subst, Result, Ok, Err, refl}
+use Rattle.std.proofs.Common.{arith, ◌-◌, ◌≡◌, ℕ, List, take, drop, length, sym, ap, subst, Result, Ok, Err, refl}
 use Rattle.std.specs.Prelude.{IfErr, IsErrAnd}
 use Rattle.component_items.specs.declared.component.Component.{Component}
 use Rattle.component_items.specs.declared.component.Item.{Item}
@@ -13,10 +13,10 @@ use Rattle.component_reader.specs.Answer.{IsNoComponentOr}
 use Rattle.input_split.specs.declared.Split.{Split}
 use Rattle.input_split.specs.Parts.{IsSplit}
 use Rattle.script_items.specs.declared.operation.ScriptOp.{ScriptOp}
-use Rattle.script_meaning.specs.Input.{IsInput, IsBadInput, bad_component, bad_script, component_part, script_part}
+use Rattle.script_meaning.specs.Input.{IsBadInput, bad_component, bad_script, component_part, script_part}
 use Rattle.script_meaning.specs.Script.{IsScript, IsNoScript}
 use Rattle.script_reader.specs.Reads.{IsNoScriptOr}
-use Rattle.page_program.specs.Run.{Input, IsReadAs}
+use Rattle.page_program.specs.Run.{IsReadAs}
 
 -- what stands from an offset on
 pub rest_is : (bytes : List ℕ) (start : ℕ) → take (length bytes - start) (drop start bytes) ≡ drop start bytes

@@ -1,3 +1,3 @@
 pub mod Outcome
-pub mod Unbuilt
 pub mod Run
+pub mod Ending

@@ -1,5 +1,5 @@
 -- What a run of the program owes, by its words and by what its source held.
-use Rattle.std.specs.Prelude.{◌≡◌, ◌⊎◌, ℕ, ◌+◌, ◌<◌, ◌≤◌, Bool, true, false, not, length, List, Option, IfSome}
+use Rattle.std.specs.Prelude.{◌≡◌, ◌⊎◌, ℕ, ◌+◌, ◌≤◌, Bool, length, List, [], Option, Some, None, IfSome}
 use Rattle.std.specs.Io.KnownBytes.{Consumes, IsAtEnd}
 use Rattle.values.specs.declared.limits.TheConstants.{MOST_INPUT_BYTES}
 use Rattle.command_words.specs.declared.settings.Settings.{Settings}
@@ -10,14 +10,16 @@ use Rattle.component_items.specs.declared.refusal.Refusal.TheVariants.{Bad}
 use Rattle.component_items.specs.declared.refusal.Why.{Why}
 use Rattle.component_items.specs.Why.{number_of}
 use Rattle.outside.specs.Counts.{Rose}
-use Rattle.plain_evaluation.specs.Held.{first_held}
-use Rattle.plain_evaluation.specs.Page.{page_of}
 use Rattle.script_items.specs.declared.operation.ScriptOp.{ScriptOp}
 use Rattle.script_meaning.specs.Input.{IsInput, IsBadInput}
+use Rattle.run_items.specs.declared.answer.Answer.{Answer}
+use Rattle.run_items.specs.Journal.{JournalPhase}
+use Rattle.run_meaning.specs.Run.{IsRun, phases_of}
+use Rattle.run_meaning.specs.Ending.{EndsWithPage, EndsWaiting}
 use Rattle.page_program.specs.declared.finish.Outcome.{Outcome}
-use Rattle.page_program.specs.declared.finish.Outcome.TheVariants.{Page, BadWords, BadText, Unbuilt, ReadFault, WriteFault, NoMemory, TooLong}
-use Rattle.page_program.specs.Outcome.{line_of}
-use Rattle.page_program.specs.Unbuilt.{is_unbuilt}
+use Rattle.page_program.specs.declared.finish.Outcome.TheVariants.{Page, BadWords, BadText, Waiting, Unbuilt, ReadFault, WriteFault, NoMemory, TooLong}
+use Rattle.page_program.specs.Outcome.{own_line}
+use Rattle.script_run.specs.Today.{RunsToday}
 
 -- what a call did to its source: the bytes that it held before and after, where it tells them, and the
 -- counts of its faults before and after
@@ -38,17 +40,17 @@ pub record Input : Type 0 where
 abbrev pub Means : List ℕ → Input → Type 0
 Means bytes input = IsInput bytes input.component input.script input.texts
 
--- there is a page of the input
-abbrev pub is_built : Input → Bool
-is_built input = not (is_unbuilt input.component.items input.script)
+-- the component with all texts of the input
+abbrev pub component_of : Input → Component
+component_of input = record input.component { texts = input.texts }
 
--- the page of an input by plain evaluation, with all its texts
-abbrev pub first_page : Input → List ℕ
-first_page input = let component = record input.component { texts = input.texts } in page_of component (first_held component)
+-- the input has no form that is not run yet
+abbrev pub IsBuilt : Input → Type 0
+IsBuilt input = RunsToday (component_of input) input.script
 
 -- the bytes are an input with this script, whose component has these items and, with those of the script, these texts
 abbrev pub IsReadAs : List ℕ → Component → List (List (List ScriptOp)) → Type 0
-IsReadAs bytes component script = (input : Input) × Means bytes input × (component ≡ record input.component { texts = input.texts }) × (script ≡ input.script)
+IsReadAs bytes component script = (input : Input) × Means bytes input × (component ≡ component_of input) × (script ≡ input.script)
 
 -- the bytes are no input, for this reason at this place
 abbrev pub IsBad : List ℕ → ℕ → Place → Type 0
@@ -60,34 +62,19 @@ IsBad bytes kind place = (why : Why) × (kind ≡ number_of why) × IsBadInput b
 abbrev pub GivesEnd : Reading → (List ℕ → Type 0) → Type 0
 GivesEnd reading P = IfSome reading.held (λ bytes. (length bytes ≤ MOST_INPUT_BYTES) × IsAtEnd reading.left × P bytes)
 
+-- the source gave its end, and what it held is this input
+abbrev pub GivesInput : Reading → Input → Type 0
+GivesInput reading input = GivesEnd reading (λ bytes. Means bytes input)
+
 -- the source gave one byte more than an input may have, and no more was read
 abbrev pub GivesTooMany : Reading → Type 0
 GivesTooMany reading = (read : List ℕ) × (length read ≡ MOST_INPUT_BYTES + 1) × Consumes reading.held reading.left read
 
--- ---- what is due
+-- these bytes were read, and they are all that the source held
+abbrev pub GaveAll : Reading → List ℕ → Type 0
+GaveAll reading bytes = Consumes reading.held reading.left bytes × IfSome reading.held (λ held. bytes ≡ held)
 
--- what the input alone says: the outcome for these bytes, and the text that it writes
-abbrev pub IsAnswer : List ℕ → Outcome → List ℕ → Type 0
-IsAnswer bytes Page text = (input : Input) × Means bytes input × (is_built input ≡ true) × (text ≡ first_page input)
-IsAnswer bytes BadWords text = ⊥
-IsAnswer bytes (BadText kind place) text = IsBad bytes kind place × (text ≡ line_of (BadText kind place))
-IsAnswer bytes Unbuilt text = (input : Input) × Means bytes input × (is_built input ≡ false) × (text ≡ line_of Unbuilt)
-IsAnswer bytes ReadFault text = ⊥
-IsAnswer bytes WriteFault text = ⊥
-IsAnswer bytes NoMemory text = ⊥
-IsAnswer bytes TooLong text = ⊥
-
--- The outcome is due for what was read, and this is what it writes. A failed write takes the place of another
--- outcome, and is never due by itself.
-abbrev pub IsReadDue : Reading → Outcome → List ℕ → Type 0
-IsReadDue reading Page text = (input : Input) × GivesEnd reading (λ bytes. Means bytes input) × (is_built input ≡ true) × (text ≡ first_page input)
-IsReadDue reading BadWords text = ⊥
-IsReadDue reading (BadText kind place) text = GivesEnd reading (λ bytes. IsBad bytes kind place) × (text ≡ line_of (BadText kind place))
-IsReadDue reading Unbuilt text = (input : Input) × GivesEnd reading (λ bytes. Means bytes input) × (is_built input ≡ false) × (text ≡ line_of Unbuilt)
-IsReadDue reading ReadFault text = Rose reading.faults reading.faults_after × (text ≡ line_of ReadFault)
-IsReadDue reading WriteFault text = ⊥
-IsReadDue reading NoMemory text = text ≡ line_of NoMemory
-IsReadDue reading TooLong text = GivesTooMany reading × (text ≡ line_of TooLong)
+-- ---- words
 
 -- the words stand for some settings, or for none
 abbrev pub StandForSome : List (List ℕ) → Type 0
@@ -96,16 +83,72 @@ StandForSome words = (settings : Settings) × StandFor words settings
 abbrev pub StandForNone : List (List ℕ) → Type 0
 StandForNone words = (settings : Settings) → StandFor words settings → ⊥
 
--- and by the words, which come first
-abbrev pub IsDue : List (List ℕ) → Reading → Outcome → List ℕ → Type 0
-IsDue words reading Page text = StandForSome words × IsReadDue reading Page text
-IsDue words reading BadWords text = StandForNone words × (text ≡ line_of BadWords)
-IsDue words reading (BadText kind place) text = StandForSome words × IsReadDue reading (BadText kind place) text
-IsDue words reading Unbuilt text = StandForSome words × IsReadDue reading Unbuilt text
-IsDue words reading ReadFault text = StandForSome words × IsReadDue reading ReadFault text
-IsDue words reading WriteFault text = ⊥
-IsDue words reading NoMemory text = text ≡ line_of NoMemory
-IsDue words reading TooLong text = StandForSome words × IsReadDue reading TooLong text
+-- ---- runs
+
+-- words and source ask for a run: the words stand for settings, and the source gave an input that is run
+pub record Request (words : List (List ℕ)) (reading : Reading) : Type 0 where
+  pub settings : Settings
+  pub stand : StandFor words settings
+  pub input : Input
+  pub given : GivesInput reading input
+  pub built : IsBuilt input
+
+-- what is handed out of a run beside its text: the journal, where the last settling was done, and the answers
+pub record Account : Type 0 where
+  pub journal : Option (List JournalPhase)
+  pub answers : List Answer
+
+abbrev pub nothing_run : Account
+nothing_run = record { journal = None; answers = [] }
+
+-- the input was run to its last settling, with this account
+pub record WasRun (input : Input) (account : Account) : Type 0 where
+  pub journal : List JournalPhase
+  pub journal_is : account.journal ≡ Some journal
+  pub run : IsRun (component_of input) input.script journal account.answers
+
+-- it was run, and ends with its page as this text, in which the report comes first where it is asked for
+abbrev pub EndsAsPage : Input → Bool → Account → List ℕ → Type 0
+EndsAsPage input asked account text = (was : WasRun input account) × EndsWithPage (component_of input) (phases_of was.run.steps) was.run.last asked text
+
+-- it was run, and ends with these loads pending
+abbrev pub EndsAsWaiting : Input → Bool → List ℕ → Account → List ℕ → Type 0
+EndsAsWaiting input asked loads account text = (was : WasRun input account) × EndsWaiting (component_of input) (phases_of was.run.steps) was.run.last asked loads text
+
+-- ---- what is due
+
+-- What is due of an input that was run to its last settling. Memory may lack for its text.
+abbrev pub IsRunDue : Input → Bool → Outcome → Account → List ℕ → Type 0
+IsRunDue input asked Page account text = EndsAsPage input asked account text
+IsRunDue input asked BadWords account text = ⊥
+IsRunDue input asked (BadText kind place) account text = ⊥
+IsRunDue input asked (Waiting loads) account text = EndsAsWaiting input asked loads account text
+IsRunDue input asked Unbuilt account text = ⊥
+IsRunDue input asked ReadFault account text = ⊥
+IsRunDue input asked WriteFault account text = ⊥
+IsRunDue input asked NoMemory account text = (own_line NoMemory ≡ Some text) × WasRun input account
+IsRunDue input asked TooLong account text = ⊥
+
+-- the outcome writes its own line, and nothing was run
+abbrev pub IsLine : Outcome → Account → List ℕ → Type 0
+IsLine outcome account text = (own_line outcome ≡ Some text) × (account ≡ nothing_run)
+
+-- nothing was run, or what words and source ask for was run to its last settling
+abbrev pub IsNoneOrRun : List (List ℕ) → Reading → Account → Type 0
+IsNoneOrRun words reading account = (account ≡ nothing_run) ⊎ ((request : Request words reading) × WasRun request.input account)
+
+-- The outcome is due, with this account, and this is what it writes: by the words, which come first, then by what was
+-- read, then by the run. A failed write takes the place of another outcome, and is never due by itself.
+abbrev pub IsDue : List (List ℕ) → Reading → Outcome → Account → List ℕ → Type 0
+IsDue words reading Page account text = (request : Request words reading) × EndsAsPage request.input request.settings.answers account text
+IsDue words reading BadWords account text = StandForNone words × IsLine BadWords account text
+IsDue words reading (BadText kind place) account text = StandForSome words × GivesEnd reading (λ bytes. IsBad bytes kind place) × IsLine (BadText kind place) account text
+IsDue words reading (Waiting loads) account text = (request : Request words reading) × EndsAsWaiting request.input request.settings.answers loads account text
+IsDue words reading Unbuilt account text = StandForSome words × (input : Input) × GivesInput reading input × (¬ IsBuilt input) × IsLine Unbuilt account text
+IsDue words reading ReadFault account text = StandForSome words × Rose reading.faults reading.faults_after × IsLine ReadFault account text
+IsDue words reading WriteFault account text = ⊥
+IsDue words reading NoMemory account text = (own_line NoMemory ≡ Some text) × IsNoneOrRun words reading account
+IsDue words reading TooLong account text = StandForSome words × GivesTooMany reading × IsLine TooLong account text
 
 -- ---- and when it comes
 
@@ -116,3 +159,7 @@ IsOr due outcome = (outcome ≡ due) ⊎ ((outcome ≡ WriteFault) ⊎ (outcome 
 -- and behind the words a failed read
 abbrev pub IsReadOr : Outcome → Outcome → Type 0
 IsReadOr due outcome = IsOr due outcome ⊎ (outcome ≡ ReadFault)
+
+-- a run ends with its page or with loads that are pending, or one of these takes its place
+abbrev pub IsRunOr : Outcome → Type 0
+IsRunOr outcome = ((loads : List ℕ) × (outcome ≡ Waiting loads)) ⊎ IsReadOr Page outcome

@@ -5,10 +5,14 @@ ghost use Rattle.std.specs.String.{string_bytes};
 ghost use Rattle.page_program.specs.Outcome as spec;
 
 use component_items::Place;
+use run_items::Answers;
 use std::alloc::{AllocError, Global};
+use still_graph::Journal;
+use values::Numbers;
 
-/// How a run of the program ended. Each outcome but `Page` and `WriteFault` writes a line of its own.
-#[derive(Debug, PartialEq, Eq, Drop)]
+/// How a run of the program ended. Each outcome but `Page`, `Waiting` and `WriteFault` writes a line of its own, and
+/// nothing else.
+#[derive(Debug, Drop)]
 pub enum Outcome {
     /// The page was written whole.
     Page,
@@ -16,7 +20,9 @@ pub enum Outcome {
     BadWords,
     /// The input is no text of a component and a script: the number of the reason, and the place.
     BadText(u8, Place),
-    /// The input has a form for which there is no page yet.
+    /// These loads are pending behind the last settling, in order of declaration. A line for each was written.
+    Waiting(Numbers),
+    /// The input has a form that is not run yet.
     Unbuilt,
     /// A read of the source failed.
     ReadFault,
@@ -28,30 +34,33 @@ pub enum Outcome {
     TooLong,
 }
 
-/// The end of a run: the exit status, and the outcome that it stands for.
-#[derive(Debug, PartialEq, Eq, Drop)]
+/// The end of a run.
+#[derive(Drop)]
 pub struct Finish {
+    /// The exit status.
     pub status: u8,
+    /// What the status stands for.
     pub outcome: Outcome,
+    /// The journal, where the settling behind the script's last phase was done.
+    pub journal: Option<Journal>,
+    /// What the operations of the script were answered. There are none where there is no journal.
+    pub answers: Answers,
 }
 
-impl Finish {
-    /// The end with this outcome.
-    pub fn new(outcome: Outcome) -> Finish
-        ensures outcome { result.outcome ≡ outcome }
-        ensures status { result.status ≡ spec.status_of outcome }
-    {
-        let status = match &outcome {
-            Outcome::Page => 0,
-            Outcome::BadWords => 2,
-            Outcome::BadText(_, _) => 3,
-            Outcome::Unbuilt => 20,
-            Outcome::ReadFault => 5,
-            Outcome::WriteFault => 6,
-            Outcome::NoMemory => 7,
-            Outcome::TooLong => 8,
-        };
-        Finish { status, outcome }
+/// The exit status of the outcome.
+pub fn status_of(outcome: &Outcome) -> u8
+    ensures { result ≡ spec.status_of outcome.now }
+{
+    match outcome {
+        Outcome::Page => 0,
+        Outcome::BadWords => 2,
+        Outcome::BadText(_, _) => 3,
+        Outcome::Waiting(_) => 4,
+        Outcome::Unbuilt => 20,
+        Outcome::ReadFault => 5,
+        Outcome::WriteFault => 6,
+        Outcome::NoMemory => 7,
+        Outcome::TooLong => 8,
     }
 }
 

@@ -4,6 +4,7 @@ ghost use Rattle.std.specs.Prelude.{◌≡◌, ◌≤◌, length, IfOk, IfErr};
 ghost use Rattle.component_items.specs.declared.refusal.Place.{Place};
 ghost use Rattle.component_items.specs.declared.refusal.Refusal.TheVariants.{Bad};
 ghost use Rattle.component_items.specs.declared.refusal.Why.{Why};
+ghost use Rattle.script_items.specs.KeptFor.{IsKeptFor};
 ghost use Rattle.script_meaning.specs.Input.{IsBadInput};
 ghost use Rattle.values.specs.declared.limits.TheConstants.{MOST_INPUT_BYTES};
 ghost use Rattle.page_program.specs.Run.{IsReadAs};
@@ -26,6 +27,7 @@ pub struct Input {
 pub fn read_input(alloc: Global, bytes: &[u8]) -> Result<Input, Refusal>
     requires { length bytes.now ≤ MOST_INPUT_BYTES }
     ensures ok { IfOk result (λ input. IsReadAs bytes.now input.component input.script) }
+    ensures kept { IfOk result (λ input. IsKeptFor input.component input.script input.component.texts) }
     ensures bad { IfErr result (λ e. (why : Why) (place : Place) → e ≡ Bad why place → IsBadInput bytes.now (Bad why place)) }
 {
     let split = split_input(bytes);

@@ -1,95 +1,105 @@
 //! The run of the program.
 
-ghost use Rattle.std.specs.Prelude.{◌≡◌, ◌≢◌, ◌≤◌, ◌<◌, ℕ, true, false, List, length, IfOk, IfSome, Err};
+ghost use Rattle.std.specs.Prelude.{◌≡◌, ◌≢◌, ◌≤◌, ◌<◌, ℕ, true, [], Some, None, List, length, IfSome};
 ghost use Rattle.std.specs.Io.KnownBytes.{Appends};
-ghost use Rattle.command_words.specs.Words.{texts_of};
+ghost use Rattle.command_words.specs.Words.{StandFor, texts_of};
 ghost use Rattle.component_items.specs.declared.refusal.Place.{Place};
 ghost use Rattle.outside.specs.Bytes.{AppendsPart};
 ghost use Rattle.outside.specs.Counts.{Rose};
-ghost use Rattle.outside.specs.declared.transfer.ReadError.{ReadError};
+ghost use Rattle.run_items.specs.Journal.{JournalPhase};
+ghost use Rattle.run_meaning.specs.Run.{IsRun};
 ghost use Rattle.page_program.specs.declared.finish.Outcome.{Outcome};
-ghost use Rattle.page_program.specs.Outcome.{status_of, line_of};
-ghost use Rattle.page_program.specs.Run.{Reading, Input, Means, IsBad, GivesEnd, GivesTooMany, IsDue, IsReadDue, IsOr, IsReadOr, StandForNone, StandForSome, first_page, is_built};
+ghost use Rattle.page_program.specs.Ending.{text_of, ending_account, account_of};
+ghost use Rattle.page_program.specs.Outcome.{status_of, own_line, is_before_run};
+ghost use Rattle.page_program.specs.Run.{Reading, Input, Means, IsBad, IsBuilt, GivesEnd, GivesInput, GivesTooMany, Request, EndsAsPage, EndsAsWaiting, IsDue, IsOr, IsReadOr, IsRunOr, StandForNone, StandForSome, component_of};
 ghost use Rattle.values.specs.declared.limits.TheConstants.{MOST_INPUT_BYTES};
 
 use crate::answer::answer;
-use crate::finish::{Finish, Outcome};
-use command_words::{WordsError, read_words};
+use crate::ending::{Ending, Text, USAGE};
+use crate::finish::{Finish, Outcome, status_of as status};
+use command_words::{Settings, WordsError, read_words};
 use html_out::put;
 use outside::{Gate, Loader, ReadError, Sink, Source, read_up_to};
 use std::alloc::Global;
-use values::NoMemory;
 use values::limits::MOST_INPUT_BYTES;
 
-/// The line of words that are not the command's.
-const USAGE: &[u8] = b"usage: page [-a] [--rounds N] | page big N\n";
-
-/// The outcome of what the source gives, and the text that it writes. All memory that the output needs is
-/// taken here.
-fn prepared<S: Source>(alloc: Global, source: &mut S) -> Result<(Outcome, Vec<u8>), ReadError>
-    ensures due { IfOk result (λ p. IsReadDue (record { held = S.held source.old; left = S.held source.new; faults = S.faults source.old; faults_after = S.faults source.new }) p.0 p.1.items) }
-    ensures failed { result ≡ Err ReadError.Failed → Rose (S.faults source.old) (S.faults source.new) }
+/// What the source's bytes come to, by the settings.
+fn prepared_by<S: Source, L: Loader, G: Gate>(
+    alloc: Global,
+    settings: Settings,
+    source: &mut S,
+    loader: &mut L,
+    gate: &G,
+) -> Ending
+    requires rounds { 1 ≤ settings.rounds }
+    ensures { let reading : Reading = record { held = S.held source.old; left = S.held source.new; faults = S.faults source.old; faults_after = S.faults source.new } in
+        (words : List (List ℕ)) → StandFor words settings → IsDue words reading result.outcome (ending_account result) (text_of result) }
 {
-    let bytes = read_up_to(alloc, source, MOST_INPUT_BYTES)?;
+    let bytes = match read_up_to(alloc, source, MOST_INPUT_BYTES) {
+        Ok(bytes) => bytes,
+        Err(ReadError::Failed) => {
+            return Ending::not_run(alloc, Outcome::ReadFault, Text::Line(b"read fault\n"));
+        }
+        Err(ReadError::NoMemory) => return Ending::no_memory(alloc),
+    };
     if bytes.len() > MOST_INPUT_BYTES {
-        return Ok((Outcome::TooLong, Vec::from_slice(alloc, b"too long\n")?));
+        return Ending::not_run(alloc, Outcome::TooLong, Text::Line(b"too long\n"));
     }
-    match answer(alloc, &bytes) {
-        Ok(found) => Ok(found),
-        Err(NoMemory) => Err(ReadError::NoMemory),
-    }
+    answer(alloc, settings, &bytes, loader, gate)
 }
 
-/// Writes the text of an outcome, which ends the run.
-fn written<K: Sink>(sink: &mut K, outcome: Outcome, text: &[u8]) -> Finish
-    ensures status { result.status ≡ status_of result.outcome }
-    ensures whole { result.outcome ≢ Outcome.WriteFault → (result.outcome ≡ outcome) × Appends (K.taken sink.old) (K.taken sink.new) text.now }
-    ensures write_fault { result.outcome ≡ Outcome.WriteFault → outcome ≢ Outcome.WriteFault → Rose (K.faults sink.old) (K.faults sink.new) × AppendsPart (K.taken sink.old) (K.taken sink.new) text.now }
-{
-    match put(sink, text) {
-        Ok(()) => Finish::new(outcome),
-        Err(_) => Finish::new(Outcome::WriteFault),
-    }
-}
-
-/// The run behind the words, over a source and a sink.
-fn read_and_written<S: Source, K: Sink>(alloc: Global, source: &mut S, sink: &mut K) -> Finish
-    ensures status { result.status ≡ status_of result.outcome }
-    ensures written { let reading : Reading = record { held = S.held source.old; left = S.held source.new; faults = S.faults source.old; faults_after = S.faults source.new } in
-        result.outcome ≢ Outcome.WriteFault → (text : List ℕ) × IsReadDue reading result.outcome text × Appends (K.taken sink.old) (K.taken sink.new) text }
-    ensures write_fault { let reading : Reading = record { held = S.held source.old; left = S.held source.new; faults = S.faults source.old; faults_after = S.faults source.new } in
-        result.outcome ≡ Outcome.WriteFault → Rose (K.faults sink.old) (K.faults sink.new)
-        × (due : Outcome) × (text : List ℕ) × IsReadDue reading due text × AppendsPart (K.taken sink.old) (K.taken sink.new) text }
-{
-    match prepared(alloc, source) {
-        Ok((outcome, text)) => written(sink, outcome, &text),
-        Err(ReadError::Failed) => written(sink, Outcome::ReadFault, b"read fault\n"),
-        Err(ReadError::NoMemory) => written(sink, Outcome::NoMemory, b"no memory\n"),
-    }
-}
-
-/// The run by its words, over a source and a sink.
-fn run<S: Source, K: Sink>(alloc: Global, words: &[String], source: &mut S, sink: &mut K) -> Finish
-    ensures status { result.status ≡ status_of result.outcome }
+/// What words and source come to. All memory that the output needs is taken here.
+fn prepared<S: Source, L: Loader, G: Gate>(
+    alloc: Global,
+    words: &[String],
+    source: &mut S,
+    loader: &mut L,
+    gate: &G,
+) -> Ending
+    ensures due { let reading : Reading = record { held = S.held source.old; left = S.held source.new; faults = S.faults source.old; faults_after = S.faults source.new } in
+        IsDue (texts_of words.now) reading result.outcome (ending_account result) (text_of result) }
     ensures unread { result.outcome ≡ Outcome.BadWords → source.new ≡ source.old }
-    ensures written { let reading : Reading = record { held = S.held source.old; left = S.held source.new; faults = S.faults source.old; faults_after = S.faults source.new } in
-        result.outcome ≢ Outcome.WriteFault → (text : List ℕ) × IsDue (texts_of words.now) reading result.outcome text × Appends (K.taken sink.old) (K.taken sink.new) text }
-    ensures write_fault { let reading : Reading = record { held = S.held source.old; left = S.held source.new; faults = S.faults source.old; faults_after = S.faults source.new } in
-        result.outcome ≡ Outcome.WriteFault → Rose (K.faults sink.old) (K.faults sink.new)
-        × (due : Outcome) × (text : List ℕ) × IsDue (texts_of words.now) reading due text × AppendsPart (K.taken sink.old) (K.taken sink.new) text }
 {
     match read_words(alloc, words) {
-        Ok(_) => read_and_written(alloc, source, sink),
-        Err(WordsError::BadWords) => written(sink, Outcome::BadWords, USAGE),
-        Err(WordsError::NoMemory) => written(sink, Outcome::NoMemory, b"no memory\n"),
+        Ok(settings) => prepared_by(alloc, settings, source, loader, gate),
+        Err(WordsError::BadWords) => {
+            Ending::not_run(alloc, Outcome::BadWords, Text::Line(USAGE))
+        }
+        Err(WordsError::NoMemory) => Ending::no_memory(alloc),
     }
 }
 
-/// Reads an input from the source to its end, and writes its page to the sink (`docs/SEMANTICS.md`). The
-/// loader and the gate are not looked at yet, and of the words whether they are the command's.
+/// Writes the text, which ends the run.
+fn written<K: Sink>(sink: &mut K, ending: Ending) -> Finish
+    ensures status { result.status ≡ status_of result.outcome }
+    ensures account { account_of result ≡ ending_account ending }
+    ensures whole { result.outcome ≢ Outcome.WriteFault → (result.outcome ≡ ending.outcome) × Appends (K.taken sink.old) (K.taken sink.new) (text_of ending) }
+    ensures write_fault { result.outcome ≡ Outcome.WriteFault → ending.outcome ≢ Outcome.WriteFault → Rose (K.faults sink.old) (K.faults sink.new) × AppendsPart (K.taken sink.old) (K.taken sink.new) (text_of ending) }
+{
+    let put = put(sink, ending.text.bytes());
+    let Ending {
+        outcome,
+        journal,
+        answers,
+        ..
+    } = ending;
+    let outcome = match put {
+        Ok(()) => outcome,
+        Err(_) => Outcome::WriteFault,
+    };
+    Finish {
+        status: status(&outcome),
+        outcome,
+        journal,
+        answers,
+    }
+}
+
+/// Reads an input from the source to its end, runs its script, and writes its page to the sink (`docs/SEMANTICS.md`).
+/// The loader is asked by settlings, and `gate` is stepped through before each operation of a lane.
 ///
-/// The words come first, then the source, then the input, then the page, and the first of these that fails
-/// gives the outcome. Each outcome comes exactly where its clauses say, but that a failed write may take its
+/// The words come first, then the source, then the input, then the run, then the text, and the first of these that
+/// fails gives the outcome. Each outcome comes exactly where its clauses say, but that a failed write may take its
 /// place, want of memory too, and behind the words a failed read. What is said of the source's bytes is said
 /// of a source that tells them.
 pub fn page<R, S: Source, K: Sink, L: Loader, G: Gate>(
@@ -98,8 +108,8 @@ pub fn page<R, S: Source, K: Sink, L: Loader, G: Gate>(
     words: &[String],
     source: &mut S,
     sink: &mut K,
-    _loader: &mut L,
-    _gate: &G,
+    loader: &mut L,
+    gate: &G,
 ) -> Finish
     ensures status { result.status ≡ status_of result.outcome }
 
@@ -119,31 +129,45 @@ pub fn page<R, S: Source, K: Sink, L: Loader, G: Gate>(
     ensures text_refused { StandForSome (texts_of words.now) → IfSome (S.held source.old) (λ bytes. length bytes ≤ MOST_INPUT_BYTES →
         (kind : ℕ) (place : Place) → IsBad bytes kind place → IsReadOr (Outcome.BadText kind place) result.outcome) }
 
-    // The source gave its end, its bytes are an input, and that has a form for which there is no page yet.
+    // The source gave its end, its bytes are an input, and that has a form that is not run yet.
     ensures unbuilt { let reading : Reading = record { held = S.held source.old; left = S.held source.new; faults = S.faults source.old; faults_after = S.faults source.new } in
-        result.outcome ≡ Outcome.Unbuilt → (input : Input) × GivesEnd reading (λ bytes. Means bytes input) × (is_built input ≡ false) }
+        result.outcome ≡ Outcome.Unbuilt → (input : Input) × GivesInput reading input × (¬ IsBuilt input) }
     ensures input_unbuilt { StandForSome (texts_of words.now) → IfSome (S.held source.old) (λ bytes. length bytes ≤ MOST_INPUT_BYTES →
-        (input : Input) → Means bytes input → is_built input ≡ false → IsReadOr Outcome.Unbuilt result.outcome) }
+        (input : Input) → Means bytes input → ¬ IsBuilt input → IsReadOr Outcome.Unbuilt result.outcome) }
 
-    // The source gave its end, its bytes are an input, and the sink has taken exactly the page of that by plain
+    // The source gave its end, its bytes are an input, and that was run. Nothing is pending behind its last settling.
+    // The sink has taken exactly the report, where the words ask for it, and the page of the last state by plain
     // evaluation.
     ensures page { let reading : Reading = record { held = S.held source.old; left = S.held source.new; faults = S.faults source.old; faults_after = S.faults source.new } in
-        result.outcome ≡ Outcome.Page → (input : Input) × GivesEnd reading (λ bytes. Means bytes input) × (is_built input ≡ true)
-        × Appends (K.taken sink.old) (K.taken sink.new) (first_page input) }
+        result.outcome ≡ Outcome.Page → (request : Request (texts_of words.now) reading) × (text : List ℕ)
+        × EndsAsPage request.input request.settings.answers (account_of result) text × Appends (K.taken sink.old) (K.taken sink.new) text }
+
+    // The same, but exactly these loads are pending behind the last settling, and each has its line in the place of
+    // the page.
+    ensures waiting { let reading : Reading = record { held = S.held source.old; left = S.held source.new; faults = S.faults source.old; faults_after = S.faults source.new } in
+        (loads : List ℕ) → result.outcome ≡ Outcome.Waiting loads → (request : Request (texts_of words.now) reading) × (text : List ℕ)
+        × EndsAsWaiting request.input request.settings.answers loads (account_of result) text × Appends (K.taken sink.old) (K.taken sink.new) text }
     ensures input_written { StandForSome (texts_of words.now) → IfSome (S.held source.old) (λ bytes. length bytes ≤ MOST_INPUT_BYTES →
-        (input : Input) → Means bytes input → is_built input ≡ true → IsReadOr Outcome.Page result.outcome) }
+        (input : Input) → Means bytes input → IsBuilt input → IsRunOr result.outcome) }
+
+    // There is a journal only where the input was run to its last settling. It is that run's, and so are the answers.
+    ensures journal { let reading : Reading = record { held = S.held source.old; left = S.held source.new; faults = S.faults source.old; faults_after = S.faults source.new } in
+        (journal : List JournalPhase) → (account_of result).journal ≡ Some journal → (request : Request (texts_of words.now) reading)
+        × IsRun (component_of request.input) request.input.script journal result.answers }
+    ensures no_journal { is_before_run result.outcome ≡ true → (account_of result).journal ≡ None }
+    ensures no_answers { (account_of result).journal ≡ None → result.answers ≡ [] }
 
     // A read failed in this call.
     ensures read_fault { result.outcome ≡ Outcome.ReadFault → Rose (S.faults source.old) (S.faults source.new) }
 
-    // What writes no page writes its own line, and nothing else.
-    ensures own_line { result.outcome ≢ Outcome.Page → result.outcome ≢ Outcome.WriteFault →
-        Appends (K.taken sink.old) (K.taken sink.new) (line_of result.outcome) }
+    // An outcome that has a line of its own writes that, and nothing else.
+    ensures own_line { IfSome (own_line result.outcome) (λ line. Appends (K.taken sink.old) (K.taken sink.new) line) }
 
     // A write failed in this call, and a part of the text of the outcome that was due was written.
     ensures write_fault { let reading : Reading = record { held = S.held source.old; left = S.held source.new; faults = S.faults source.old; faults_after = S.faults source.new } in
         result.outcome ≡ Outcome.WriteFault → Rose (K.faults sink.old) (K.faults sink.new)
-        × (due : Outcome) × (text : List ℕ) × IsDue (texts_of words.now) reading due text × AppendsPart (K.taken sink.old) (K.taken sink.new) text }
+        × (due : Outcome) × (text : List ℕ) × IsDue (texts_of words.now) reading due (account_of result) text × AppendsPart (K.taken sink.old) (K.taken sink.new) text }
 {
-    run(alloc, words, source, sink)
+    let ending = prepared(alloc, words, source, loader, gate);
+    written(sink, ending)
 }

@@ -4,8 +4,11 @@ use crate::finish::{Finish, Outcome};
 use crate::run::page;
 use component_items::Place;
 use outside::{Delays, MemorySink, MemorySource, OpenGate};
+use run_items::{Answer, Reply};
+use std::alloc::Global;
 use std::test::Fail;
 use std::vec::Vec;
+use values::Code;
 
 const FIRST: &str = "component 1\nsignal a = 2\nmemo b = a * 3\n<p>{b}</p>\n";
 
@@ -43,7 +46,7 @@ fn run_with(
     let bytes = Vec::from_slice(alloc, input)?;
     let mut source = MemorySource::new(bytes, piece, Vec::from_slice(alloc, source_fails)?);
     let fails = Vec::from_slice(alloc, sink_fails)?;
-    let mut sink = MemorySink::new(alloc, 256, piece, fails)?;
+    let mut sink = MemorySink::new(alloc, 4096, piece, fails)?;
     let finish = page(
         rt,
         alloc,
@@ -73,6 +76,7 @@ fn inputs_give_their_pages_in_pieces_of_any_size(rt: HostRuntime) -> Result<(), 
         ),
         ("component 1\n<p><br></p>", "<p><br></p>"),
         ("component 1\neffect e = 1\n<p></p>\n---\n", "<p></p>"),
+        ("component 1\n<p></p>\n---\nphase\nphase lane", "<p></p>"),
         (TODOS, todos),
     ];
     for (input, output) in rows {
@@ -87,7 +91,7 @@ fn inputs_give_their_pages_in_pieces_of_any_size(rt: HostRuntime) -> Result<(), 
 
 #[test]
 fn inputs_are_refused_with_their_line(rt: HostRuntime) -> Result<(), Fail> {
-    let rows: [(&[u8], u8, &str); 14] = [
+    let rows: [(&[u8], u8, &str); 16] = [
         (b"", 3, "bad text 3 at 1:1\n"),
         (b"component 9", 3, "bad text 3 at 1:11\n"),
         (b"component 1\n<p><br></br></p>", 3, "bad text 11 at 2:10\n"),
@@ -120,9 +124,23 @@ fn inputs_are_refused_with_their_line(rt: HostRuntime) -> Result<(), Fail> {
             20,
             "not built\n",
         ),
-        (b"component 1\n---\nphase", 20, "not built\n"),
         (
-            b"component 1\nsignal a = 1\n<p>{a}</p>\n---\nphase lane set a = 2",
+            b"component 1\nsignal a = 1\n---\nphase lane set a = 2 lane",
+            20,
+            "not built\n",
+        ),
+        (
+            b"component 1\neffect e = 1\n---\nphase lane pump",
+            20,
+            "not built\n",
+        ),
+        (
+            b"component 1\narea a {}\n---\nphase lane dispose a",
+            20,
+            "not built\n",
+        ),
+        (
+            b"component 1\nstore s max 1 { t = 0 }\n---\nphase\nphase lane get s[1].t remove s 1",
             20,
             "not built\n",
         ),
@@ -140,23 +158,14 @@ fn words_come_before_the_source(rt: HostRuntime) -> Result<(), Fail> {
     let input = FIRST.as_bytes();
     for words in [["--rounds", "0"], ["big", "4"], ["-a", "-a"]] {
         let (finish, bytes) = run_with(&rt, &words, input, 100, &[1], &[])?;
-        assert_eq!(rt;
-            finish,
-            Finish {
-                status: 2,
-                outcome: Outcome::BadWords
-            }
-        );
+        assert_eq!(rt; finish.status, 2);
+        assert!(rt; matches!(finish.outcome, Outcome::BadWords));
+        assert!(rt; finish.journal.is_none());
         assert_eq!(rt; bytes.as_slice(), USAGE.as_bytes());
     }
     let (finish, bytes) = run_with(&rt, &["--rounds", "3"], input, 100, &[], &[])?;
-    assert_eq!(rt;
-        finish,
-        Finish {
-            status: 0,
-            outcome: Outcome::Page
-        }
-    );
+    assert_eq!(rt; finish.status, 0);
+    assert!(rt; matches!(finish.outcome, Outcome::Page));
     assert_eq!(rt; bytes.as_slice(), b"<p>6</p>".as_slice());
     Ok(())
 }
@@ -166,36 +175,22 @@ fn faults_end_the_run(rt: HostRuntime) -> Result<(), Fail> {
     let input = FIRST.as_bytes();
     for k in 1..9u32 {
         let (finish, bytes) = run_with(&rt, &[], input, 1, &[], &[k])?;
-        assert_eq!(rt;
-            finish,
-            Finish {
-                status: 6,
-                outcome: Outcome::WriteFault
-            }
-        );
+        assert_eq!(rt; finish.status, 6);
+        assert!(rt; matches!(finish.outcome, Outcome::WriteFault));
+        assert!(rt; finish.journal.is_some());
         assert_eq!(rt; bytes.len(), k as usize - 1);
         assert!(rt; b"<p>6</p>".starts_with(bytes.as_slice()));
     }
-    assert_eq!(rt;
-        run_with(&rt, &[], input, 1, &[], &[9])?.0.outcome,
-        Outcome::Page
-    );
+    assert_eq!(rt; run_with(&rt, &[], input, 1, &[], &[9])?.0.status, 0);
     // The text is read in 8 pieces of 7 bytes, and the call behind them finds its end.
     for k in 1..10u32 {
         let (finish, bytes) = run_with(&rt, &[], input, 7, &[k], &[])?;
-        assert_eq!(rt;
-            finish,
-            Finish {
-                status: 5,
-                outcome: Outcome::ReadFault
-            }
-        );
+        assert_eq!(rt; finish.status, 5);
+        assert!(rt; matches!(finish.outcome, Outcome::ReadFault));
+        assert!(rt; finish.journal.is_none());
         assert_eq!(rt; bytes.as_slice(), b"read fault\n".as_slice());
     }
-    assert_eq!(rt;
-        run_with(&rt, &[], input, 7, &[10], &[])?.0.outcome,
-        Outcome::Page
-    );
+    assert_eq!(rt; run_with(&rt, &[], input, 7, &[10], &[])?.0.status, 0);
     Ok(())
 }
 
@@ -205,19 +200,11 @@ fn the_longest_input_is_read(rt: HostRuntime) -> Result<(), Fail> {
     let mut input = Vec::from_slice(alloc, b"component 1")?;
     let blanks = vec![in alloc; b' '; 1048565]?;
     input.extend_from_slice(&blanks)?;
-    assert_eq!(rt;
-        run_with(&rt, &[], &input, 65536, &[], &[])?.0.outcome,
-        Outcome::Page
-    );
+    assert_eq!(rt; run_with(&rt, &[], &input, 65536, &[], &[])?.0.status, 0);
     input.push(b' ')?;
     let (finish, bytes) = run_with(&rt, &[], &input, 65536, &[], &[])?;
-    assert_eq!(rt;
-        finish,
-        Finish {
-            status: 8,
-            outcome: Outcome::TooLong
-        }
-    );
+    assert_eq!(rt; finish.status, 8);
+    assert!(rt; matches!(finish.outcome, Outcome::TooLong));
     assert_eq!(rt; bytes.as_slice(), b"too long\n".as_slice());
     Ok(())
 }
@@ -226,6 +213,127 @@ fn the_longest_input_is_read(rt: HostRuntime) -> Result<(), Fail> {
 fn a_place_is_told(rt: HostRuntime) -> Result<(), Fail> {
     let (finish, _) = run_with(&rt, &[], b"component 1\n</br>", 100, &[], &[])?;
     let place = Place { line: 2, column: 1 };
-    assert_eq!(rt; finish.outcome, Outcome::BadText(3, place));
+    assert!(rt; matches!(finish.outcome, Outcome::BadText(3, at) if at == place));
+    Ok(())
+}
+
+/// The input in which `|` stands for a line feed.
+fn lines(alloc: Global, text: &str) -> Result<Vec<u8>, Fail> {
+    let mut bytes = Vec::new(alloc);
+    for byte in text.bytes() {
+        bytes.push(if byte == b'|' { b'\n' } else { byte })?;
+    }
+    Ok(bytes)
+}
+
+#[test]
+fn scripts_are_answered_in_the_report(rt: HostRuntime) -> Result<(), Fail> {
+    let rows = [
+        (
+            "component 1|signal c = 1|signal a = 5|signal b = 7|memo m = if c then a else b|<p>{m}</p>|---|phase lane set b = 8 get m",
+            "1.1.1 set 1|1.1.2 get 5 at 0|journal 1.1 write 2 8|<p>5</p>",
+        ),
+        (
+            "component 1|signal a = 1|memo p = a % 2|memo q = p + 10|<p>{q}</p>|---|phase lane set a = 3 get q",
+            "1.1.1 set 1|1.1.2 get 11 at 0|journal 1.1 write 0 3|<p>11</p>",
+        ),
+        (
+            "component 1|signal a = 1|memo b = a + 1|<p>{b}</p>|---|phase lane set a = 1 set a = 1 get b",
+            "1.1.1 set 1|1.1.2 set 2|1.1.3 get 2 at 0|journal 1.1 write 0 1|journal 1.2 write 0 1|<p>2</p>",
+        ),
+        (
+            "component 1|signal a = 1|memo b = a + 1|memo c = a + 2|memo d = b + c|<p>{d}</p>|---|phase lane set a = 10 get d",
+            "1.1.1 set 1|1.1.2 get 23 at 4|journal 1.1 write 0 10|journal 1.2 change 1 11|journal 1.3 change 2 12|journal 1.4 change 3 23|<p>23</p>",
+        ),
+        (
+            "component 1|signal a = 1|memo b = a * 2|<p>{b}</p>|---|phase lane set a = 5 get b|phase lane get b set a = 7 get a get b",
+            "1.1.1 set 1|1.1.2 get 10 at 2|journal 1.1 write 0 5|journal 1.2 change 1 10|2.1.1 get 10 at 0|2.1.2 set 1|2.1.3 get 7 at 1|2.1.4 get 14 at 2|journal 2.1 write 0 7|journal 2.2 change 1 14|<p>14</p>",
+        ),
+        (
+            "component 1|store s max 4 { t = 0 }|<p></p>|---|phase lane set s[7].t = 1 get s[7].t",
+            "1.1.1 norow|1.1.2 norow|<p></p>",
+        ),
+        (
+            "component 1|signal a = 0|area side {|signal t = \"\"|<i>{t}</i>|}|---|phase lane set side.t = \"a\\\"b\" get side.t get a",
+            "1.1.1 set 1|1.1.2 get \"a\\\"b\" at 1|1.1.3 get 0 at 0|journal 1.1 write 1 \"a\\\"b\"|<i>a\"b</i>",
+        ),
+        ("component 1|<p></p>|---|phase|phase lane", "<p></p>"),
+    ];
+    let alloc = rt.alloc();
+    for (input, output) in rows {
+        let input = lines(alloc, input)?;
+        let (finish, bytes) = run_with(&rt, &["-a"], &input, 100, &[], &[])?;
+        assert_eq!(rt; finish.status, 0);
+        assert!(rt; finish.journal.is_some());
+        assert_eq!(rt; bytes.as_slice(), lines(alloc, output)?.as_slice());
+        let (finish, bytes) = run_with(&rt, &[], &input, 100, &[], &[])?;
+        let page = output.rsplit('|').next().unwrap_or("");
+        assert_eq!(rt; finish.status, 0);
+        assert_eq!(rt; bytes.as_slice(), page.as_bytes());
+    }
+    Ok(())
+}
+
+#[test]
+fn answers_are_handed_out(rt: HostRuntime) -> Result<(), Fail> {
+    let input = lines(
+        rt.alloc(),
+        "component 1|signal a = 1|memo b = a + 1|---|phase lane|phase lane get b set a = 3",
+    )?;
+    let (finish, bytes) = run_with(&rt, &[], &input, 100, &[], &[])?;
+    let got = Answer {
+        phase: 2,
+        lane: 1,
+        op: 1,
+        reply: Reply::Got(Code::Number(2), 0),
+    };
+    let set = Answer {
+        phase: 2,
+        lane: 1,
+        op: 2,
+        reply: Reply::Set(1),
+    };
+    assert_eq!(rt; finish.answers.as_slice(), [got, set].as_slice());
+    assert!(rt; finish.journal.is_some());
+    assert!(rt; bytes.is_empty());
+    Ok(())
+}
+
+#[test]
+fn a_phase_that_is_full_goes_on(rt: HostRuntime) -> Result<(), Fail> {
+    let alloc = rt.alloc();
+    let mut input = lines(alloc, "component 1|signal a = 0|<p>{a}</p>|---|phase lane")?;
+    for _ in 0..65536 {
+        input.extend_from_slice(b" set a = 1")?;
+    }
+    input.extend_from_slice(b" set a = 2")?;
+    let (finish, bytes) = run_with(&rt, &[], &input, 65536, &[], &[])?;
+    let last = Answer {
+        phase: 1,
+        lane: 1,
+        op: 65537,
+        reply: Reply::Full(65537),
+    };
+    assert_eq!(rt; finish.answers.len(), 65537);
+    assert_eq!(rt; finish.answers.as_slice().last(), Some(&last));
+    assert_eq!(rt; bytes.as_slice(), b"<p>1</p>".as_slice());
+    Ok(())
+}
+
+#[test]
+fn a_failed_write_of_a_report_ends_the_run(rt: HostRuntime) -> Result<(), Fail> {
+    let input = lines(
+        rt.alloc(),
+        "component 1|signal a = 1|<p>{a}</p>|---|phase lane get a",
+    )?;
+    let text = b"1.1.1 get 1 at 0\n<p>1</p>";
+    for k in 1..26u32 {
+        let (finish, bytes) = run_with(&rt, &["-a"], &input, 1, &[], &[k])?;
+        assert_eq!(rt; finish.status, 6);
+        assert_eq!(rt; bytes.len(), k as usize - 1);
+        assert!(rt; text.starts_with(bytes.as_slice()));
+        assert_eq!(rt; finish.answers.len(), 1);
+    }
+    assert_eq!(rt; run_with(&rt, &["-a"], &input, 1, &[], &[26])?.0.status, 0);
     Ok(())
 }

@@ -5,7 +5,7 @@ use Rattle.std.specs.List.{position_or_len}
 use Rattle.std.proofs.lemmas.List.Folds.{find_at}
 use Rattle.std.proofs.lemmas.Bool.Decides.{nat_tests}
 use Rattle.std.proofs.lemmas.List.{length-map}
-use Rattle.component_blocks.proofs.Places.{position-push}
+use Rattle.component_scope.proofs.Places.{position-push}
 use Rattle.script_meaning.specs.Names.{Declaration, find_name}
 use Rattle.script_names.specs.declared.names.Declared.{Declared}
 use Rattle.script_names.specs.Named.{named_as, declaration_of}

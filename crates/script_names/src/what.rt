@@ -2,7 +2,7 @@
 
 ghost use Rattle.std.specs.Prelude.{◌≡◌, ◌+◌, ◌<◌, ◌^◌, length, IfOk};
 
-use component_blocks::Fields;
+use component_scope::Fields;
 use std::alloc::{AllocError, Global};
 use values::Code;
 

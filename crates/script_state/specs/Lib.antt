@@ -1,4 +1,2 @@
-pub mod Named
-pub mod Added
 pub mod Rules
 pub mod Readable

@@ -1,5 +1,5 @@
 -- What writes leave, one and more.
-use Rattle.std.proofs.Common.{nat_lt, ◌≡◌, ◌≢◌, ℕ, ◌+◌, ◌≤◌, ◌⊎◌, inl, inr, List, [], ◌∷◌, ◌++◌, slice_get, Option, Some, length, set, refl, sym, ap, subst, ◌∙◌, arith, Bool, true, false, length-set}
+use Rattle.std.proofs.Common.{nat_lt, ◌≡◌, ◌≢◌, ℕ, ◌+◌, ◌<◌, ◌≤◌, ◌⊎◌, inl, inr, List, [], ◌∷◌, ◌++◌, slice_get, Option, Some, length, set, refl, sym, ap, subst, ◌∙◌, arith, Bool, true, false, length-set}
 use Rattle.values.specs.declared.code.Code.{Code}
 use Rattle.values.specs.declared.plan.Fact.TheVariants.{Change}
 use Rattle.values.specs.declared.plan.Noted.{Noted}
@@ -28,6 +28,7 @@ since_same rows c = record {
   base = refl;
   in_phase = refl;
   drawn = omega arith;
+  few = (λ l. absurd (omega arith));
   each = (λ i old new o n. subst (λ (q : Opened). IsTouched rows rows c c i old q) (one_at old new o n) (touched_same rows rows c c i old));
   entries = (λ k noted e. e);
   news = (λ k noted l e. let w = at_within c.entries.list k noted e in absurd (omega arith));
@@ -41,6 +42,7 @@ since_kept rows m y0 y c here unclean clean body code version = record {
   base = refl;
   in_phase = refl;
   drawn = omega arith;
+  few = (λ l. absurd (omega arith));
   each = (λ i old new o n. by i old new o (which rows m y0 y i new here n));
   entries = (λ k noted e. e);
   news = (λ k noted l e. let w = at_within c.entries.list k noted e in absurd (omega arith));
@@ -61,6 +63,7 @@ since_changed rows m y0 y c c' clock here unclean clean grows body other version
   base = tick.base;
   in_phase = tick.in_phase;
   drawn = (let d = tick.drawn in omega arith);
+  few = (λ l. tick.few);
   each = (λ i old new o n. by i old new o (which rows m y0 y i new here n));
   entries = (λ k noted e. kept k noted e (c.in_phase) refl);
   news = (λ k noted l e. news k noted l e (c.in_phase) refl);
@@ -215,12 +218,17 @@ module _ (rows0 rows1 rows2 : List Opened) (c0 c1 c2 : Clock) (a : IsSince rows0
       let same : q.old ≡ y0.0 = old_same q.row y0.0 q.old q.new (a.each q.row y0.0 q.old y0.1 q.was) (b.each q.row q.old q.new q.was q.is) q.other (is_clean q.old.colour) refl in
       record { row = q.row; old = y0.0; new = q.new; was = y0.1; is = q.is; clean = q.clean; other = (λ h. q.other (h ∙ ap (λ (z : Opened). unpacked z.code) (sym same))); entry = q.entry; version = q.version ∙ ap (λ (z : ℕ). z + (k + 1)) a.base }
 
+  few : (t : Bool) → nat_lt c1.drawn c2.drawn ≡ t → c0.drawn < c2.drawn → c2.drawn ≤ 65536
+  few true t l = b.few (grind arith)
+  few false t l = let d = b.drawn in let same : c1.drawn ≡ c2.drawn = grind arith in let f = a.few (omega arith) in omega arith
+
   pub since_more : IsSince rows0 rows2 c0 c2
   since_more = record {
     paired = b.paired ∙ a.paired;
     base = b.base ∙ a.base;
     in_phase = b.in_phase ∙ a.in_phase;
     drawn = (let x = a.drawn in let y = b.drawn in omega arith);
+    few = (λ l. few (nat_lt c1.drawn c2.drawn) refl l);
     each = (λ i old new o n. let mid = middle i old o in touched i old mid.0 new (a.each i old mid.0 o mid.1) (b.each i mid.0 new mid.1 n) (is_clean mid.0.colour) refl);
     entries = (λ k noted e. b.entries k noted (a.entries k noted e));
     news = (λ k noted l e. news k noted l e (nat_lt k (length c1.entries.list)) refl);

@@ -35,7 +35,7 @@ use Rattle.still_rows.specs.Clock.{IsClock, IsVersioned, now_of}
 use Rattle.still_rows.specs.Frames.{AreLawful, IsConfirmed, IsGoing, IsFrameOf, IsFrame, IsMemo}
 use Rattle.still_rows.specs.Moves.{room, begun_left, going_left, work_left, IsKept, IsRun, IsBelow}
 use Rattle.still_rows.specs.Since.{IsSeen, finished_row, kept_row, IsBodyAfter}
-use Rattle.still_rows.specs.Ends.{IsCauseOf, IsFinished, IsRunnable}
+use Rattle.still_rows.specs.Ends.{IsCauseOf, IsRunRecorded, IsFinished, IsRunnable}
 use Rattle.still_rows.specs.Works.{IsUnder, IsStack, unclean_count, width, work_of, top_work, total, IsStill, IsStepped, IsOnward}
 use Rattle.still_rows.proofs.FramesLemmas.{reads_back, confirmed_values, named_memo}
 use Rattle.still_rows.proofs.Written.{IsWritten, written_good, frame_kept}
@@ -60,6 +60,13 @@ unfolding unclean_count
 unclean_less [] m y0 y h u c = cc
 unclean_less (r ∷ rs) zero y0 y h u c = let same : r ≡ y0 = cc in let u' : is_clean r.colour ≡ false = rw same u in rw (u', c) (omega arith)
 unclean_less (r ∷ rs) (suc m) y0 y h u c = let rest = unclean_less rs m y0 y h u c in omega arith
+
+-- a row that is not clean is counted
+pub some_unclean : (rows : List Opened) (m : ℕ) (y : Opened) → slice_get rows m ≡ Some y → is_clean y.colour ≡ false → 0 < unclean_count rows
+unfolding unclean_count
+some_unclean [] m y h u = cc
+some_unclean (r ∷ rs) zero y h u = let same : r ≡ y = cc in let u' : is_clean r.colour ≡ false = rw same u in rw u' (omega arith)
+some_unclean (r ∷ rs) (suc m) y h u = let rest = some_unclean rs m y h u in omega arith
 
 -- the work of a frame is bounded
 work_small : (nodes : List PlanNode) (rows : List Opened) (node : PlanNode) (row : Opened) (f : Frame) → IsGood nodes rows → slice_get nodes f.node ≡ Some node → slice_get rows f.node ≡ Some row → IsFrameOf rows node row f → work_left row f + 1 < width nodes
@@ -139,20 +146,13 @@ stepped_more nodes rows0 rows1 rows2 r0 r1 r2 c0 c1 c2 a b = record {
 memo_derived : (k : Kind) → k ≡ Memo → is_derived k ≡ true
 memo_derived k e = rw e refl
 
--- one write, whole
-module _ (nodes : List PlanNode) (rows : List Opened) (root : ℕ) (readers readers' : Readers) (c c' : Clock) (f : Frame) (fs : List Frame) (node : PlanNode) (y0 y : Opened) (code : Code) (still : IsStill nodes rows readers c) (is : IsStack nodes rows root (f ∷ fs)) (n : slice_get nodes f.node ≡ Some node) (here : slice_get rows f.node ≡ Some y0) (right : IsRight node.expr y.body.reads.list y.code) (w : IsWritten rows f.node y0 y) (body : IsBodySince rows (set rows f.node y) y0 y) (coded : unpacked y.code ≡ code) (equal : unpacked y0.code ≡ code → y.code ≡ y0.code) (v : IsVersioned c c' f.node y0 code y.version) (clock : IsClock c') (of_plan : IsReadersOf nodes readers') (stays : (m row : ℕ) → HasRead readers m row → HasRead readers' m row) (enrolled : (k : ℕ) (x : Read) → slice_get y.body.reads.list k ≡ Some x → HasRead readers' f.node x.row) where
-  o : IsFrameOf rows node y0 f
-  o = is.0.each node y0 n here
+-- one write of a derived row, after which all holds
+module _ (nodes : List PlanNode) (rows : List Opened) (readers readers' : Readers) (c c' : Clock) (f : Frame) (node : PlanNode) (y0 y : Opened) (still : IsStill nodes rows readers c) (is : IsFrame nodes rows f) (n : slice_get nodes f.node ≡ Some node) (here : slice_get rows f.node ≡ Some y0) (right : IsRight node.expr y.body.reads.list y.code) (w : IsWritten rows f.node y0 y) (later : now_of c ≤ now_of c') (low : y.version ≤ now_of c') (clock : IsClock c') (of_plan : IsReadersOf nodes readers') (stays : (m row : ℕ) → HasRead readers m row → HasRead readers' m row) (enrolled : (k : ℕ) (x : Read) → slice_get y.body.reads.list k ≡ Some x → HasRead readers' f.node x.row) where
+  of_frame : IsFrameOf rows node y0 f
+  of_frame = is.each node y0 n here
 
   good' : IsGood nodes (set rows f.node y)
-  good' = written_good nodes rows f.node node y0 y still.good n o.derived here o.unclean right w
-
-  stack' : IsStack nodes (set rows f.node y) root fs
-  stack' = stack_over nodes rows root f.node y0 y here o.unclean w.clean w.grows fs is.2
-
-  later : IsVersioned c c' f.node y0 code y.version → (now_of c ≤ now_of c') × (y.version ≤ now_of c') × (c'.drawn ≤ c.drawn + 1)
-  later (inl (same, e, je)) = let d = still.dated.held f.node y0 here in rw je (omega arith, omega arith, omega arith)
-  later (inr (same, e, tick)) = let a = tick.base in let b = tick.drawn in (omega arith, omega arith, omega arith)
+  good' = written_good nodes rows f.node node y0 y still.good n of_frame.derived here of_frame.unclean right w
 
   dated' : IsDated (set rows f.node y) (now_of c')
   dated' = record {
@@ -161,17 +161,17 @@ module _ (nodes : List PlanNode) (rows : List Opened) (root : ℕ) (readers read
   }
     where
       held : (i : ℕ) (z : Opened) → ((i ≡ f.node) × (z ≡ y)) ⊎ ((i ≡ f.node → ⊥) × (slice_get rows i ≡ Some z)) → z.version ≤ now_of c'
-      held i z (inl (e, g)) = rw g (later v).1
-      held i z (inr (m, at)) = let d = still.dated.held i z at in let l = (later v).0 in omega arith
+      held i z (inl (e, g)) = rw g low
+      held i z (inr (m, at)) = let d = still.dated.held i z at in omega arith
 
       recorded : (i : ℕ) (z : Opened) (k : ℕ) (x : Read) → slice_get z.body.reads.list k ≡ Some x → ((i ≡ f.node) × (z ≡ y)) ⊎ ((i ≡ f.node → ⊥) × (slice_get rows i ≡ Some z)) → x.version ≤ now_of c'
       recorded i z k x e (inl (p, g)) =
           let r = w.reads k x (ap (λ (q : Opened). slice_get q.body.reads.list k) (sym g) ∙ e) in
-          let b = is.0.below in let q = still.good.paired in let low = r.below in
+          let b = is.below in let q = still.good.paired in let low = r.below in
           let t = within_at rows x.row (omega arith) in
           let same = r.present.version t.0 t.1 in
-          let d = still.dated.held x.row t.0 t.1 in let l = (later v).0 in omega arith
-      recorded i z k x e (inr (m, at)) = let d = still.dated.recorded i z at k x e in let l = (later v).0 in omega arith
+          let d = still.dated.held x.row t.0 t.1 in omega arith
+      recorded i z k x e (inr (m, at)) = let d = still.dated.recorded i z at k x e in omega arith
 
   roomy' : IsRoomy nodes (set rows f.node y)
   roomy' = record { each = (λ i other z q at d. by i other z q d (which rows f.node y0 y i z here at)) }
@@ -187,6 +187,24 @@ module _ (nodes : List PlanNode) (rows : List Opened) (root : ℕ) (readers read
       by i other z q d ran k x e (inl (p, g)) = subst (λ (j : ℕ). HasRead readers' j x.row) (sym p) (enrolled k x (ap (λ (t : Opened). slice_get t.body.reads.list k) (sym g) ∙ e))
       by i other z q d ran k x e (inr (m, at)) = stays i x.row (still.enrolled.each i other z q at d ran k x e)
 
+  pub write_still : IsStill nodes (set rows f.node y) readers' c'
+  write_still = record { lawful = still.lawful; good = good'; dated = dated'; roomy = roomy'; of_plan = of_plan; enrolled = enrolled'; ticks = clock }
+
+-- one write of a memo, whole
+module _ (nodes : List PlanNode) (rows : List Opened) (root : ℕ) (readers readers' : Readers) (c c' : Clock) (f : Frame) (fs : List Frame) (node : PlanNode) (y0 y : Opened) (code : Code) (still : IsStill nodes rows readers c) (is : IsStack nodes rows root (f ∷ fs)) (n : slice_get nodes f.node ≡ Some node) (here : slice_get rows f.node ≡ Some y0) (right : IsRight node.expr y.body.reads.list y.code) (w : IsWritten rows f.node y0 y) (body : IsBodySince rows (set rows f.node y) y0 y) (coded : unpacked y.code ≡ code) (equal : unpacked y0.code ≡ code → y.code ≡ y0.code) (v : IsVersioned c c' f.node y0 code y.version) (clock : IsClock c') (of_plan : IsReadersOf nodes readers') (stays : (m row : ℕ) → HasRead readers m row → HasRead readers' m row) (enrolled : (k : ℕ) (x : Read) → slice_get y.body.reads.list k ≡ Some x → HasRead readers' f.node x.row) where
+  o : IsFrameOf rows node y0 f
+  o = is.0.each node y0 n here
+
+  later : IsVersioned c c' f.node y0 code y.version → (now_of c ≤ now_of c') × (y.version ≤ now_of c') × (c'.drawn ≤ c.drawn + 1)
+  later (inl (same, e, je)) = let d = still.dated.held f.node y0 here in rw je (omega arith, omega arith, omega arith)
+  later (inr (same, e, tick)) = let a = tick.base in let b = tick.drawn in (omega arith, omega arith, omega arith)
+
+  still' : IsStill nodes (set rows f.node y) readers' c'
+  still' = write_still nodes rows readers readers' c c' f node y0 y still is.0 n here right w (later v).0 (later v).1 clock of_plan stays enrolled
+
+  stack' : IsStack nodes (set rows f.node y) root fs
+  stack' = stack_over nodes rows root f.node y0 y here o.unclean w.clean w.grows fs is.2
+
   effects' : (i : ℕ) (other : PlanNode) → slice_get nodes i ≡ Some other → other.kind ≡ Effect → slice_get (set rows f.node y) i ≡ slice_get rows i
   effects' i other q k = set_other rows f.node i y (λ e.
       let memo = is.1.each other (rw (← e) q) in
@@ -195,93 +213,140 @@ module _ (nodes : List PlanNode) (rows : List Opened) (root : ℕ) (readers read
   pub write_steps : IsStepped nodes rows (set rows f.node y) readers readers' c c' × IsOnward nodes rows (set rows f.node y) root (f ∷ fs) fs
   write_steps = (
     record {
-      still = record { lawful = still.lawful; good = good'; dated = dated'; roomy = roomy'; of_plan = of_plan; enrolled = enrolled'; ticks = clock };
+      still = still';
       since = since_written rows f.node y0 y c c' code still.ticks here o.unclean w.clean w.grows body coded equal v;
       values = values_set nodes rows f.node node y n o.derived;
       effects = effects';
       have_read = stays;
       spent = (let a = unclean_less rows f.node y0 y here o.unclean w.clean in let b = (later v).2 in omega arith);
     },
-    record { stack = stack'; less = total_less nodes rows f.node root y0 y f fs fs here o.unclean w.clean good' stack' },
+    record { stack = stack'; less = total_less nodes rows f.node root y0 y f fs fs here o.unclean w.clean still'.good stack' },
   )
+
+-- what a check that found nothing changed leaves in the row
+pub kept_written : (nodes : List PlanNode) (rows : List Opened) (f : Frame) (node : PlanNode) (row : Opened) → IsGood nodes rows → IsFrame nodes rows f → slice_get nodes f.node ≡ Some node → slice_get rows f.node ≡ Some row → IsKept rows row → IsWritten rows f.node row (kept_row row)
+kept_written nodes rows f node row good is n here kept = record {
+  is_packed = (good.each f.node node row n here).is_packed;
+  clean = refl;
+  ran = kept.0;
+  room = omega arith;
+  grows = omega arith;
+  stays = (λ _. refl);
+  reads = (λ k x e. let r = d.known k x e in let p = kept.1 k x e in record { below = r.below; is_packed = r.is_packed; present = p; code = (λ z at. r.same z at (p.version z at)) });
+}
+  where
+    d : IsDerivedGood rows f.node node row
+    d = (good.each f.node node row n here).derived (is.each node row n here).derived
 
 -- a check that found nothing changed
 pub keep_steps : (nodes : List PlanNode) (rows : List Opened) (root : ℕ) (readers : Readers) (c : Clock) (f : Frame) (fs : List Frame) (node : PlanNode) (row : Opened) → IsStill nodes rows readers c → IsStack nodes rows root (f ∷ fs) → slice_get nodes f.node ≡ Some node → slice_get rows f.node ≡ Some row → IsKept rows row
     → IsStepped nodes rows (set rows f.node (kept_row row)) readers readers c c × IsOnward nodes rows (set rows f.node (kept_row row)) root (f ∷ fs) fs
 keep_steps nodes rows root readers c f fs node row still is n here kept =
-    write_steps nodes rows root readers readers c c f fs node row (kept_row row) (unpacked row.code) still is n here (d.right kept.0) record {
-      is_packed = (still.good.each f.node node row n here).is_packed;
-      clean = refl;
-      ran = kept.0;
-      room = omega arith;
-      grows = omega arith;
-      stays = (λ _. refl);
-      reads = (λ k x e. let r = d.known k x e in let p = kept.1 k x e in record { below = r.below; is_packed = r.is_packed; present = p; code = (λ z at. r.same z at (p.version z at)) });
-    }
+    write_steps nodes rows root readers readers c c f fs node row (kept_row row) (unpacked row.code) still is n here (d.right kept.0) (kept_written nodes rows f node row still.good is.0 n here kept)
     (inl (refl, refl)) refl (λ _. refl) (inl (refl, refl, refl)) still.ticks still.of_plan (λ m r h. h)
     (λ k x e. still.enrolled.each f.node node row n here (is.0.each node row n here).derived kept.0 k x e)
   where
     d : IsDerivedGood rows f.node node row
     d = (still.good.each f.node node row n here).derived (is.0.each node row n here).derived
 
--- why a run was caused, as it is seen after the write
-caused_seen : (rows rows' : List Opened) (row : Opened) (i at : ℕ) (cause : Cause) → ((k : ℕ) (x : Read) → slice_get row.body.reads.list k ≡ Some x → x.row < i) → ((q : ℕ) → q < i → slice_get rows' q ≡ slice_get rows q) → IsCauseOf rows row at cause → IsCaused row.body.reads.list row.body.cause (IsSeen rows rows') cause
-caused_seen rows rows' row i at First low same h = h
-caused_seen rows rows' row i at (Changed s a b) low same h = record {
+-- the same of any derived row, effects too
+pub keep_still : (nodes : List PlanNode) (rows : List Opened) (readers : Readers) (c : Clock) (f : Frame) (node : PlanNode) (row : Opened) → IsStill nodes rows readers c → IsFrame nodes rows f → slice_get nodes f.node ≡ Some node → slice_get rows f.node ≡ Some row → IsKept rows row → IsStill nodes (set rows f.node (kept_row row)) readers c
+keep_still nodes rows readers c f node row still is n here kept =
+    write_still nodes rows readers readers c c f node row (kept_row row) still is n here (d.right kept.0) (kept_written nodes rows f node row still.good is n here kept)
+    (omega arith) (still.dated.held f.node row here) still.ticks still.of_plan (λ m r h. h)
+    (λ k x e. still.enrolled.each f.node node row n here (is.each node row n here).derived kept.0 k x e)
+  where
+    d : IsDerivedGood rows f.node node row
+    d = (still.good.each f.node node row n here).derived (is.each node row n here).derived
+
+-- why a run was caused, as it is seen after the write, from any rows before on
+caused_seen : (rows0 rows rows' : List Opened) (row : Opened) (i at : ℕ) (cause : Cause) → ((k : ℕ) (x : Read) → slice_get row.body.reads.list k ≡ Some x → x.row < i) → ((q : ℕ) → q < i → slice_get rows' q ≡ slice_get rows q) → IsCauseOf rows row at cause → IsCaused row.body.reads.list row.body.cause (IsSeen rows0 rows') cause
+caused_seen rows0 rows rows' row i at First low same h = h
+caused_seen rows0 rows rows' row i at (Changed s a b) low same h = record {
   place = at;
   read = h.0;
   recorded = h.1;
   of_source = h.2;
   at_old = h.3;
-  shown = (λ old new o n. inl (h.4.2 ∙ ap (λ (q : Opened). q.version) (one_at h.4.0 old h.4.1 o)));
+  shown = (λ old new o n. inr (h.4.2 ∙ ap (λ (q : Opened). q.version) (one_at h.4.0 new h.4.1 (sym (same s (below h.2)) ∙ n))));
   other = (let l = h.4.3 in λ e. omega (arith, e));
 }
+  where
+    below : h.0.row ≡ s → s < i
+    below e = let l = low at h.0 h.1 in omega (arith, e)
 
--- a run
+-- what a whole run leaves in its row
+module _ (nodes : List PlanNode) (rows rows' : List Opened) (readers readers' : Readers) (c : Clock) (f : Frame) (node : PlanNode) (row : Opened) (code : Code) (version : ℕ) (list : List Read) (still : IsStill nodes rows readers c) (is : IsFrame nodes rows f) (n : slice_get nodes f.node ≡ Some node) (here : slice_get rows f.node ≡ Some row) (run : IsRun nodes rows node f code list) (fin : IsRunRecorded rows rows' readers readers' f code version list row) where
+  after : IsBodyAfter row.body fin.put.body fin.cause list
+  after = fin.put.after
+
+  derived_row : IsDerivedGood rows f.node node row
+  derived_row = (still.good.each f.node node row n here).derived (is.each node row n here).derived
+
+  named : (k : ℕ) (x : Read) → slice_get list k ≡ Some x → Contains (rows_in node.expr) x.row
+  named k x at = reads_named node.expr (plan_value nodes (value_in rows)) x.row (subst (λ (l : List ℕ). Contains l x.row) run.read (row_in list k x at))
+
+  confirmed : (k : ℕ) (x : Read) → slice_get fin.put.body.reads.list k ≡ Some x → IsConfirmed rows f.node x
+  confirmed k x e = run.each k x (ap (λ (l : List Read). slice_get l k) (sym after.reads_are) ∙ e)
+
+  pub run_right : IsRight node.expr fin.put.body.reads.list (packed code)
+  run_right = right_from node.expr fin.put.body.reads.list (packed code) (plan_value nodes (value_in rows)) (ap rows_read after.reads_are ∙ run.read)
+      (confirmed_values nodes rows (reads_back nodes still.lawful) still.good f.node (let p = still.good.paired in let b = is.below in omega arith) fin.put.body.reads.list confirmed)
+      (run.value ∙ sym fin.undone)
+
+  pub run_equal : unpacked row.code ≡ code → packed code ≡ row.code
+  run_equal e = ap packed (sym e) ∙ packed-unpacked row.code (still.good.each f.node node row n here).is_packed
+
+  pub run_written : row.version ≤ version → (version ≡ row.version → packed code ≡ row.code) → IsWritten rows f.node row (finished_row (packed code) version fin.put.body)
+  run_written grows stays = record {
+    is_packed = fin.packs;
+    clean = refl;
+    ran = (λ e. let bad : Some fin.cause ≡ None = sym after.cause_is ∙ e in cc);
+    room = (let a = after.room in omega arith);
+    grows = grows;
+    stays = stays;
+    reads = confirmed;
+  }
+
+  pub run_caused : (rows0 : List Opened) → IsCaused row.body.reads.list row.body.cause (IsSeen rows0 (set rows f.node (finished_row (packed code) version fin.put.body))) fin.cause
+  run_caused rows0 = caused_seen rows0 rows (set rows f.node (finished_row (packed code) version fin.put.body)) row f.node f.at fin.cause (λ k x e. (derived_row.known k x e).below) (λ q l. set_other rows f.node q (finished_row (packed code) version fin.put.body) (λ e. absurd (omega arith))) fin.caused
+
+  pub run_body : IsBodySince rows (set rows f.node (finished_row (packed code) version fin.put.body)) row (finished_row (packed code) version fin.put.body)
+  run_body = inr (fin.cause, after.cause_is, run_caused rows)
+
+  pub run_enrolled : (k : ℕ) (x : Read) → slice_get fin.put.body.reads.list k ≡ Some x → HasRead readers' f.node x.row
+  run_enrolled k x e =
+      let at = ap (λ (l : List Read). slice_get l k) (sym after.reads_are) ∙ e in
+      let b = is.below in let low = (run.each k x at).below in
+      fin.enrolled.enrolled nodes still.of_plan node n (is.each node row n here).derived k x (at_within list k x at) at (named k x at) (omega arith)
+
+  -- under a newer version all holds
+  pub run_still : (c' : Clock) → IsClock c' → now_of c ≤ now_of c' → version ≤ now_of c' → row.version < version → IsStill nodes rows' readers' c'
+  run_still c' clock later low newer =
+      subst (λ (q : List Opened). IsStill nodes q readers' c') (sym fin.put.is)
+      (write_still nodes rows readers readers' c c' f node row (finished_row (packed code) version fin.put.body) still is n here run_right (run_written (omega arith) (λ e. absurd (omega arith))) later low clock (fin.enrolled.of_plan nodes still.of_plan) fin.enrolled.stays run_enrolled)
+
+-- a run of a memo
 pub finish_steps : (nodes : List PlanNode) (rows rows' : List Opened) (root : ℕ) (readers readers' : Readers) (c c' : Clock) (f : Frame) (fs : List Frame) (node : PlanNode) (row : Opened) (code : Code) (list : List Read) → IsStill nodes rows readers c → IsStack nodes rows root (f ∷ fs) → slice_get nodes f.node ≡ Some node → slice_get rows f.node ≡ Some row → IsRun nodes rows node f code list → IsClock c' → IsFinished rows rows' readers readers' c c' f code list row
     → IsStepped nodes rows rows' readers readers' c c' × IsOnward nodes rows rows' root (f ∷ fs) fs
-finish_steps nodes rows rows' root readers readers' c c' f fs node row code list still is n here run clock fin =
+finish_steps nodes rows rows' root readers readers' c c' f fs node row code list still is n here run clock end =
+    let fin = end.run in
     subst (λ (q : List Opened). IsStepped nodes rows q readers readers' c c' × IsOnward nodes rows q root (f ∷ fs) fs) (sym fin.put.is)
-    (write_steps nodes rows root readers readers' c c' f fs node row (finished_row (packed code) fin.version fin.put.body) code still is n here right record {
-      is_packed = fin.packs;
-      clean = refl;
-      ran = (λ e. let bad : Some fin.cause ≡ None = sym after.cause_is ∙ e in cc);
-      room = (let a = after.room in omega arith);
-      grows = grows fin.versioned;
-      stays = (λ s. stays fin.versioned s);
-      reads = confirmed;
-    }
-    (inr (fin.cause, after.cause_is, caused_seen rows (set rows f.node (finished_row (packed code) fin.version fin.put.body)) row f.node f.at fin.cause (λ k x e. (d.known k x e).below) (λ q l. set_other rows f.node q (finished_row (packed code) fin.version fin.put.body) (λ e. absurd (omega arith))) fin.caused))
-    fin.undone equal fin.versioned clock (fin.enrolled.of_plan nodes still.of_plan) fin.enrolled.stays
-    (λ k x e. let at = ap (λ (l : List Read). slice_get l k) (sym after.reads_are) ∙ e in
-    let b = is.0.below in let low = (run.each k x at).below in
-    fin.enrolled.enrolled nodes still.of_plan node n (is.0.each node row n here).derived k x (at_within list k x at) at (named k x at) (omega arith)))
+    (write_steps nodes rows root readers readers' c c' f fs node row (finished_row (packed code) end.version fin.put.body) code still is n here
+    (run_right nodes rows rows' readers readers' c f node row code end.version list still is.0 n here run fin)
+    (run_written nodes rows rows' readers readers' c f node row code end.version list still is.0 n here run fin (grows end.versioned) (λ s. stays end.versioned s))
+    (run_body nodes rows rows' readers readers' c f node row code end.version list still is.0 n here run fin)
+    fin.undone equal end.versioned clock (fin.enrolled.of_plan nodes still.of_plan) fin.enrolled.stays
+    (run_enrolled nodes rows rows' readers readers' c f node row code end.version list still is.0 n here run fin))
   where
-    after : IsBodyAfter row.body fin.put.body fin.cause list
-    after = fin.put.after
-
-    d : IsDerivedGood rows f.node node row
-    d = (still.good.each f.node node row n here).derived (is.0.each node row n here).derived
-
-    named : (k : ℕ) (x : Read) → slice_get list k ≡ Some x → Contains (rows_in node.expr) x.row
-    named k x at = reads_named node.expr (plan_value nodes (value_in rows)) x.row (subst (λ (l : List ℕ). Contains l x.row) run.read (row_in list k x at))
-
-    confirmed : (k : ℕ) (x : Read) → slice_get fin.put.body.reads.list k ≡ Some x → IsConfirmed rows f.node x
-    confirmed k x e = run.each k x (ap (λ (l : List Read). slice_get l k) (sym after.reads_are) ∙ e)
-
-    right : IsRight node.expr fin.put.body.reads.list (packed code)
-    right = right_from node.expr fin.put.body.reads.list (packed code) (plan_value nodes (value_in rows)) (ap rows_read after.reads_are ∙ run.read)
-        (confirmed_values nodes rows (reads_back nodes still.lawful) still.good f.node (let p = still.good.paired in let b = is.0.below in omega arith) fin.put.body.reads.list confirmed)
-        (run.value ∙ sym fin.undone)
-
     equal : unpacked row.code ≡ code → packed code ≡ row.code
-    equal e = ap packed (sym e) ∙ packed-unpacked row.code (still.good.each f.node node row n here).is_packed
+    equal e = run_equal nodes rows rows' readers readers' c f node row code end.version list still is.0 n here run end.run e
 
-    grows : IsVersioned c c' f.node row code fin.version → row.version ≤ fin.version
+    grows : IsVersioned c c' f.node row code end.version → row.version ≤ end.version
     grows (inl (same, e, je)) = omega arith
     grows (inr (same, e, tick)) = let l = still.dated.held f.node row here in omega arith
 
-    stays : IsVersioned c c' f.node row code fin.version → fin.version ≡ row.version → packed code ≡ row.code
+    stays : IsVersioned c c' f.node row code end.version → end.version ≡ row.version → packed code ≡ row.code
     stays (inl (same, e, je)) _ = equal same
     stays (inr (same, e, tick)) s = let l = still.dated.held f.node row here in absurd (omega arith)
 

@@ -44,13 +44,17 @@ pub record IsEnrolledFor (node : ℕ) (reads : List Read) (count : ℕ) (old new
   pub stays : (m row : ℕ) → HasRead old m row → HasRead new m row
   pub enrolled : (nodes : List PlanNode) → IsReadersOf nodes old → (n : PlanNode) → slice_get nodes node ≡ Some n → is_derived n.kind ≡ true → (k : ℕ) (x : Read) → k < count → slice_get reads k ≡ Some x → Contains (rows_in n.expr) x.row → x.row < length nodes → HasRead new node x.row
 
--- a run ended
-pub record IsFinished (rows rows' : List Opened) (readers readers' : Readers) (clock clock' : Clock) (f : Frame) (code : Code) (reads : List Read) (row : Opened) : Type 0 where
-  pub version : ℕ
+-- a run was recorded under this version, with its cause, and its node was enrolled at what it read
+pub record IsRunRecorded (rows rows' : List Opened) (readers readers' : Readers) (f : Frame) (code : Code) (version : ℕ) (reads : List Read) (row : Opened) : Type 0 where
   pub cause : Cause
   pub caused : IsCauseOf rows row f.at cause
   pub packs : IsPacked (packed code)
   pub undone : unpacked (packed code) ≡ code
-  pub versioned : IsVersioned clock clock' f.node row code version
   pub put : IsPut rows rows' f.node row cause (packed code) version reads
   pub enrolled : IsEnrolledFor f.node reads (length reads) readers readers'
+
+-- the run of a memo ended
+pub record IsFinished (rows rows' : List Opened) (readers readers' : Readers) (clock clock' : Clock) (f : Frame) (code : Code) (reads : List Read) (row : Opened) : Type 0 where
+  pub version : ℕ
+  pub versioned : IsVersioned clock clock' f.node row code version
+  pub run : IsRunRecorded rows rows' readers readers' f code version reads row

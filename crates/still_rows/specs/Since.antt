@@ -54,6 +54,7 @@ pub record IsSince (rows rows' : List Opened) (before after : Clock) : Type 0 wh
   pub base : after.base ≡ before.base
   pub in_phase : after.in_phase ≡ before.in_phase
   pub drawn : before.drawn ≤ after.drawn
+  pub few : before.drawn < after.drawn → after.drawn ≤ 65536
   pub each : (i : ℕ) (old new : Opened) → slice_get rows i ≡ Some old → slice_get rows' i ≡ Some new → IsTouched rows rows' before after i old new
   pub entries : (k : ℕ) (noted : Noted) → slice_get before.entries.list k ≡ Some noted → slice_get after.entries.list k ≡ Some noted
   pub news : (k : ℕ) (noted : Noted) → length before.entries.list ≤ k → slice_get after.entries.list k ≡ Some noted → IsNews rows rows' before k noted

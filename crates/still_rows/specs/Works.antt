@@ -1,5 +1,5 @@
 -- The stack of frames, what is left to do on it, and what a call on the rows keeps.
-use Rattle.std.specs.Prelude.{◌≡◌, ℕ, ◌+◌, ◌*◌, ◌<◌, ◌≤◌, true, if◌then◌else◌, List, [], ◌∷◌, slice_get, length, Option, Some, None}
+use Rattle.std.specs.Prelude.{◌≡◌, ℕ, ◌+◌, ◌*◌, ◌<◌, ◌≤◌, true, false, if◌then◌else◌, List, [], ◌∷◌, slice_get, length, Option, Some, None}
 use Rattle.values.specs.declared.plan.Kind.TheVariants.{Effect}
 use Rattle.values.specs.declared.plan.PlanNode.{PlanNode}
 use Rattle.values.specs.PlanValues.{plan_value}
@@ -34,6 +34,14 @@ IsStack nodes rows root (f ∷ fs) = IsFrame nodes rows f × IsMemo nodes f.node
 unfoldable pub unclean_count : List Opened → ℕ
 unclean_count [] = 0
 unclean_count (r ∷ rs) = (if is_clean r.colour then 0 else 1) + unclean_count rs
+
+-- a memo is not clean
+pub record HasUncleanMemo (nodes : List PlanNode) (rows : List Opened) : Type 0 where
+  pub row : ℕ
+  pub memo : IsMemo nodes row
+  pub opened : Opened
+  pub at : slice_get rows row ≡ Some opened
+  pub unclean : is_clean opened.colour ≡ false
 
 -- more than the work of one frame
 abbrev pub width : List PlanNode → ℕ

@@ -8,7 +8,7 @@ ghost use Rattle.sources.specs.Rows.{IsGood};
 ghost use Rattle.work_order.specs.Order.{first_frame};
 ghost use Rattle.still_rows.specs.Frames.{AreLawful, IsFrame, IsMemo};
 ghost use Rattle.still_rows.specs.Shown.{HasRoom};
-ghost use Rattle.still_rows.specs.Works.{IsStack, IsStill, IsStepped, IsOnward, work_of, EndsAs};
+ghost use Rattle.still_rows.specs.Works.{IsStack, IsStill, IsStepped, IsOnward, unclean_count, HasUncleanMemo, work_of, EndsAs};
 
 use crate::clock::{Clock, Full};
 use crate::moves::{Moved, advance, row_at};
@@ -88,6 +88,8 @@ fn turn(
     ensures stepped { IsStepped nodes.now rows.old rows.new readers.old readers.new clock.old clock.new }
     ensures onward { OnOk result (IsOnward nodes.now rows.old rows.new _root (frame ∷ frames.old) frames.new) }
     ensures full { OnErr result (65536 ≤ clock.new.drawn) }
+    ensures left { OnErr result (0 < unclean_count rows.new) }
+    ensures memo_left { OnErr result (HasUncleanMemo nodes.now rows.new) }
 {
     let gone = go_on(nodes, rows, reads, frame);
     match gone.ended {
@@ -103,7 +105,7 @@ fn turn(
 }
 
 /// Brings a memo that is not clean up to date, by the order of work. It takes no memory. After `Full`
-/// all rows are good: a run whose number is above the last has written nothing.
+/// all rows are good: a run whose number is above the last has written nothing, and its row is not clean.
 pub fn bring_up(
     nodes: &[PlanNode],
     rows: &mut [Opened],
@@ -122,6 +124,8 @@ pub fn bring_up(
     ensures stepped { IsStepped nodes.now rows.old rows.new readers.old readers.new clock.old clock.new }
     ensures clean { OnOk result ((row : OpenedValue) → slice_get rows.new root ≡ Some row → is_clean row.colour ≡ true) }
     ensures full { OnErr result (65536 ≤ clock.new.drawn) }
+    ensures left { OnErr result (0 < unclean_count rows.new) }
+    ensures memo_left { OnErr result (HasUncleanMemo nodes.now rows.new) }
 {
     frames.clear();
     frames.push(Frame::new(root, row_at(rows, root).body.cause));

@@ -9,7 +9,7 @@ ghost use Rattle.values.specs.Packing.{packed, unpacked};
 ghost use Rattle.still_readers.specs.Readers.{HasRead};
 ghost use Rattle.still_readers.specs.Marking.{IsDarkened, Reached, written_row, IsSource};
 ghost use Rattle.still_rows.specs.Clock.{IsTicked, now_of};
-ghost use Rattle.still_rows.specs.Works.{IsStill, IsStepped, IsWorkOf};
+ghost use Rattle.still_rows.specs.Works.{IsStill, IsStepped, IsWorkOf, unclean_count, HasUncleanMemo};
 
 use crate::bring::bring_up;
 use crate::clock::{Clock, Full};
@@ -25,7 +25,8 @@ use work_order::Frame;
 #[derive(Debug, Drop)]
 pub struct Work {
     pub(crate) frames: Stack<Frame>,
-    pub(crate) reads: Reads,
+    /// What the run that is being made has read.
+    pub reads: Reads,
     pub(crate) marking: Marking,
 }
 
@@ -46,6 +47,8 @@ pub fn refresh(
     ensures stepped { IsStepped nodes.now rows.old rows.new readers.old readers.new clock.old clock.new }
     ensures clean { OnOk result ((row : OpenedValue) → slice_get rows.new node ≡ Some row → is_clean row.colour ≡ true) }
     ensures full { OnErr result (65536 ≤ clock.new.drawn) }
+    ensures left { OnErr result (0 < unclean_count rows.new) }
+    ensures memo_left { OnErr result (HasUncleanMemo nodes.now rows.new) }
 {
     if row_at(rows, node).colour.is_clean() {
         return Ok(());
@@ -81,6 +84,8 @@ pub fn get(
     ensures number { IfOk result (λ answer. (row : OpenedValue) → slice_get rows.new node ≡ Some row →
         (answer.0 ≡ unpacked row.code) × (answer.1 ≡ row.version - clock.new.base)) }
     ensures full { OnErr result (65536 ≤ clock.new.drawn) }
+    ensures left { OnErr result (0 < unclean_count rows.new) }
+    ensures memo_left { OnErr result (HasUncleanMemo nodes.now rows.new) }
 {
     refresh(nodes, rows, readers, clock, work, node)?;
     let row = row_at(rows, node);
@@ -111,6 +116,8 @@ fn refresh_memo(
     ensures stepped { IsStepped nodes.now rows.old rows.new readers.old readers.new clock.old clock.new }
     ensures clean { OnOk result (node.now.kind ≡ Kind.Memo → (row : OpenedValue) → slice_get rows.new at ≡ Some row → is_clean row.colour ≡ true) }
     ensures full { OnErr result (65536 ≤ clock.new.drawn) }
+    ensures left { OnErr result (0 < unclean_count rows.new) }
+    ensures memo_left { OnErr result (HasUncleanMemo nodes.now rows.new) }
 {
     if node.kind == Kind::Memo {
         return refresh(nodes, rows, readers, clock, work, at);
@@ -134,6 +141,8 @@ pub fn settle_memos(
         slice_get rows.new i ≡ Some row → node.kind ≡ Kind.Memo →
         (is_clean row.colour ≡ true) × (unpacked row.code ≡ plan_value nodes.now (value_in rows.old) i)) }
     ensures full { OnErr result (65536 ≤ clock.new.drawn) }
+    ensures left { OnErr result (0 < unclean_count rows.new) }
+    ensures memo_left { OnErr result (HasUncleanMemo nodes.now rows.new) }
 {
     for (at, node) in nodes.iter().enumerate() {
         refresh_memo(nodes, rows, readers, clock, work, at as u32, node)?;

@@ -14,8 +14,12 @@ mod writes;
 
 pub use bring::{Ended, Gone, bring_up, go_on};
 pub use calls::{Work, get, refresh, set, settle_memos};
-pub use clock::{Clock, Full};
+pub use clock::{Clock, Full, PHASE_ROOM};
 pub use fresh::fresh_rows;
 pub use lawful::is_lawful;
-pub use moves::{Moved, advance};
+pub use moves::{Moved, advance, row_at};
 pub use stack::Stack;
+pub use writes::{keep, record_run};
+
+#[cfg(test)]
+mod tests;

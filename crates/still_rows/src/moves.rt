@@ -40,7 +40,8 @@ fn node_at(nodes: &[PlanNode], at: u32) -> &PlanNode
     &nodes[at as usize]
 }
 
-pub(crate) fn row_at(rows: &[Opened], at: u32) -> &Opened
+/// The row at a number.
+pub fn row_at(rows: &[Opened], at: u32) -> &Opened
     requires { at < length rows.now }
     ensures { slice_get rows.now at ≡ Some result.now }
 {

@@ -8,7 +8,7 @@ ghost use Rattle.work_order.specs.Order.{is_due};
 ghost use Rattle.still_rows.specs.Frames.{IsGoing};
 ghost use Rattle.still_rows.specs.Clock.{IsClock, IsVersioned};
 ghost use Rattle.still_rows.specs.Since.{kept_row};
-ghost use Rattle.still_rows.specs.Ends.{IsCauseOf, IsPut, IsEnrolledFor, IsFinished, IsRunnable};
+ghost use Rattle.still_rows.specs.Ends.{IsCauseOf, IsPut, IsEnrolledFor, IsRunRecorded, IsFinished, IsRunnable};
 
 use crate::clock::{Clock, Full};
 use crate::moves::{read_at, row_at};
@@ -33,7 +33,7 @@ fn version_for(clock: &mut Clock, node: u32, row: &Opened, code: Code) -> Result
 }
 
 /// A check found nothing changed.
-pub(crate) fn keep(rows: &mut [Opened], node: u32)
+pub fn keep(rows: &mut [Opened], node: u32)
     requires { node < length rows.old }
     ensures { (row : OpenedValue) → slice_get rows.old node ≡ Some row → rows.new ≡ slice_set rows.old node (kept_row row) }
 {
@@ -91,6 +91,34 @@ fn put(rows: &mut [Opened], node: u32, cause: Cause, code: u64, version: u64, re
     row.colour = Colour::Clean;
 }
 
+/// A run is whole, with these reads and this version: its row has them, with its cause, and its node
+/// has read the rows.
+pub fn record_run(
+    rows: &mut [Opened],
+    readers: &mut Readers,
+    reads: &Reads,
+    frame: Frame,
+    code: Code,
+    version: u64,
+)
+    requires node { frame.node < length rows.old }
+    requires due { is_due frame.due ≡ true }
+    requires row { (row : OpenedValue) → slice_get rows.old frame.node ≡ Some row → IsRunnable rows.old row frame reads.now.list }
+    ensures { (row : OpenedValue) → slice_get rows.old frame.node ≡ Some row →
+        IsRunRecorded rows.old rows.new readers.old readers.new frame code version reads.now.list row }
+{
+    let cause = cause_of(rows, row_at(rows, frame.node), frame);
+    enrol_all(readers, frame.node, reads.as_slice());
+    put(
+        rows,
+        frame.node,
+        cause,
+        code.pack(),
+        version,
+        reads.as_slice(),
+    );
+}
+
 /// A run is whole, with these reads. Its number is drawn first; where there is none left, nothing is
 /// written.
 pub(crate) fn finish(
@@ -115,15 +143,6 @@ pub(crate) fn finish(
 {
     let row = row_at(rows, frame.node);
     let version = version_for(clock, frame.node, row, code)?;
-    let cause = cause_of(rows, row, frame);
-    enrol_all(readers, frame.node, reads.as_slice());
-    put(
-        rows,
-        frame.node,
-        cause,
-        code.pack(),
-        version,
-        reads.as_slice(),
-    );
+    record_run(rows, readers, reads, frame, code, version);
     Ok(())
 }

@@ -1,17 +1,27 @@
-use Rattle.std.proofs.Common.{◌≤◌, length, sym, subst, arith}
-use Rattle.values.specs.declared.limits.TheConstants.{MOST_INPUT_BYTES}
-use Rattle.page_program.specs.Run.{IsAnswer}
-use Rattle.page_program.proofs.Runs.{read_due}
+use Rattle.std.proofs.Common.{ap, Err}
+use Rattle.command_words.specs.Words.{texts_of}
+use Rattle.page_program.specs.Ending.{bytes_of, text_of, ending_account}
+use Rattle.page_program.proofs.Due.{words_due, never_bad_words}
+use Rattle.page_program.proofs.Runs.{reading_of}
 use Rattle.page_program.proofs.run.prepared.Goals as goal
 
-pub returns-in-Ok-clause-due : goal.returns-in-Ok-clause-due
-returns-in-Ok-clause-due g c =
+pub returns-in-Ok-clause-unread : goal.returns-in-Ok-clause-unread
+returns-in-Ok-clause-unread g c = λ e.
+    let words = texts_of c.args.words.now in
     let held = g.S.Source.held in
     let faults = g.S.Source.faults in
     let before = c.args.source.now in
-    let after = c.read_up_to.new.source in
-    let bytes = c.in_ok-bytes.bytes in
-    let found = subst (λ b. IsAnswer b c.in-Ok.found.0 c.in-Ok.found.1.items) c.deref.ensures.value c.in-Ok.ensures in
-    let few : length bytes.items ≤ MOST_INPUT_BYTES = omega (arith, bytes.ok.0) in
-    read_due (held before) (held after) (faults before) (faults after) bytes.items c.in-Ok.found.0 c.in-Ok.found.1.items c.in_ok-bytes.ensures.moved
-    (c.in_ok-bytes.ensures.whole (omega (arith, bytes.ok.0))) few found
+    let after = c.prepared_by.new.source in
+    let reading = reading_of (held before) (held after) (faults before) (faults after) in
+    let end = c.prepared_by.result in
+    let stand = c.in-Ok.ensures.settings in
+    absurd (never_bad_words words reading end.outcome (ending_account end) (text_of end) (c.in-Ok.settings, stand) (c.prepared_by.ensures words stand) e)
+
+pub returns-in-Err-BadWords-clause-due : goal.returns-in-Err-BadWords-clause-due
+returns-in-Err-BadWords-clause-due g c =
+    let words = texts_of c.args.words.now in
+    let held = g.S.Source.held c.args.source.now in
+    let faults = g.S.Source.faults c.args.source.now in
+    let end = c.not_run.result in
+    words_due words (reading_of held held faults faults) end.outcome (ending_account end) (text_of end) (c.in-Err-BadWords.ensures.bad (ap (λ x. Err x) c.in-Err-BadWords.field-0-is))
+    c.not_run.ensures.outcome (ap bytes_of c.not_run.ensures.text) c.not_run.ensures.account

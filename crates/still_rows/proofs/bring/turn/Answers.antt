@@ -1,11 +1,12 @@
-use Rattle.std.proofs.Common.{◌≡◌, ◌∷◌, List, length, sym, subst, ap, ◌∙◌, arith}
+use Rattle.std.proofs.Common.{◌≡◌, ℕ, ◌<◌, ◌∷◌, List, length, sym, subst, ap, ◌∙◌, arith}
 use Rattle.work_order.specs.declared.frame.Frame.{Frame}
 use Rattle.sources.specs.declared.opening.Opened.{Opened}
 use Rattle.still_rows.specs.declared.bring.Ended.{Ended}
 use Rattle.still_rows.specs.declared.clock.Clock.{Clock}
 use Rattle.work_order.specs.Order.{first_frame}
-use Rattle.still_rows.specs.Works.{IsStepped, IsOnward, EndsAs}
-use Rattle.still_rows.proofs.WorksLemmas.{row_of, node_of, stepped_same, below_steps, keep_steps, finish_steps, few_under, run_runs, gone_stack, gone_less}
+use Rattle.still_rows.specs.Frames.{IsMemo}
+use Rattle.still_rows.specs.Works.{IsStepped, IsOnward, EndsAs, unclean_count, HasUncleanMemo}
+use Rattle.still_rows.proofs.WorksLemmas.{row_of, node_of, stepped_same, some_unclean, below_steps, keep_steps, finish_steps, few_under, run_runs, gone_stack, gone_less}
 use Rattle.still_rows.proofs.FreshLemmas.{any_err}
 use Rattle.still_rows.proofs.bring.turn.Goals as goal
 
@@ -127,3 +128,21 @@ pub returns-in_err-finish-in-Finish-clause-full : goal.returns-in_err-finish-in-
 returns-in_err-finish-in-Finish-clause-full c =
     let e = c.in_err-finish-in-Finish.ensures in
     any_err c.from_residual.result (let a = e.full in let b = ap (λ (q : Clock). q.drawn) e.unchanged in omega arith)
+
+pub returns-in_err-finish-in-Finish-clause-left : goal.returns-in_err-finish-in-Finish-clause-left
+returns-in_err-finish-in-Finish-clause-left c =
+    let g = c.go_on-gone.result.frame in
+    let e = c.go_on-gone.ensures in
+    let node = node_of c.args.nodes.now c.args.rows.now g e.frame in
+    let row = row_of c.args.nodes.now c.args.rows.now g c.requires.still.good e.frame in
+    any_err c.from_residual.result (subst (λ (q : List Opened). 0 < unclean_count q) (sym c.in_err-finish-in-Finish.ensures.rows)
+    (some_unclean c.args.rows.now g.node row.0 row.1 (e.frame.each node.0 row.0 node.1 row.1).unclean))
+
+pub returns-in_err-finish-in-Finish-clause-memo_left : goal.returns-in_err-finish-in-Finish-clause-memo_left
+returns-in_err-finish-in-Finish-clause-memo_left c =
+    let g = c.go_on-gone.result.frame in
+    let e = c.go_on-gone.ensures in
+    let node = node_of c.args.nodes.now c.args.rows.now g e.frame in
+    let row = row_of c.args.nodes.now c.args.rows.now g c.requires.still.good e.frame in
+    any_err c.from_residual.result (subst (λ (q : List Opened). HasUncleanMemo c.args.nodes.now q) (sym c.in_err-finish-in-Finish.ensures.rows)
+    record { row = g.node; memo = subst (λ (i : ℕ). IsMemo c.args.nodes.now i) (sym e.node) c.requires.stack.1; opened = row.0; at = row.1; unclean = (e.frame.each node.0 row.0 node.1 row.1).unclean })

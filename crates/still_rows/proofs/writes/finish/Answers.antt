@@ -1,26 +1,12 @@
-use Rattle.std.proofs.Common.{◌∙◌, ℕ, List, length, sym, ap, subst}
-use Rattle.values.specs.Packing.{unpacked, IsPacked}
-use Rattle.sources.specs.declared.body.Read.{Read}
+use Rattle.std.proofs.Common.{subst}
 use Rattle.sources.specs.declared.opening.Opened.{Opened}
 use Rattle.still_readers.proofs.Lists.{one_at}
-use Rattle.still_rows.specs.Ends.{IsPut, IsEnrolledFor, IsFinished}
+use Rattle.still_rows.specs.Clock.{IsVersioned}
 use Rattle.still_rows.proofs.writes.finish.Goals as goal
 
 pub returns-clause-finished : goal.returns-clause-finished
-returns-clause-finished c = λ row at.
-    let row0 = c.row_at-row.result.now in
-    let node = c.args.frame.node in
-    let cause = c.cause_of-cause.result in
-    let version = c.in_ok-version.version in
-    let put0 = c.put.ensures row0 c.row_at-row.ensures in
-    let put1 = subst (λ (l : List Read). IsPut c.args.rows.now c.put.new.rows node row0 cause c.pack.result version l) c.as_slice-2.ensures put0 in
-    subst (λ (q : Opened). IsFinished c.args.rows.now c.put.new.rows c.args.readers.now c.enrol_all.new.readers c.args.clock.now c.version_for.new.clock c.args.frame c.args.code c.args.reads.now.list q) (one_at row0 row c.row_at-row.ensures at) record {
-      version = version;
-      cause = cause;
-      caused = c.cause_of-cause.ensures;
-      packs = subst (λ (w : ℕ). IsPacked w) c.pack.ensures.word c.pack.ensures.is_packed;
-      undone = ap unpacked (sym c.pack.ensures.word) ∙ c.pack.ensures.value;
-      versioned = c.in_ok-version.ensures.versioned;
-      put = subst (λ (w : ℕ). IsPut c.args.rows.now c.put.new.rows node row0 cause w version c.args.reads.now.list) c.pack.ensures.word put1;
-      enrolled = subst (λ (l : List Read). IsEnrolledFor node l (length l) c.args.readers.now c.enrol_all.new.readers) c.as_slice.ensures c.enrol_all.ensures;
-    }
+returns-clause-finished c = λ row at. record {
+  version = c.in_ok-version.version;
+  versioned = subst (λ (q : Opened). IsVersioned c.args.clock.now c.version_for.new.clock c.args.frame.node q c.args.code c.in_ok-version.version) (one_at c.row_at-row.result.now row c.row_at-row.ensures at) c.in_ok-version.ensures.versioned;
+  run = c.record_run.ensures row at;
+}

@@ -1,5 +1,5 @@
 use Rattle.std.proofs.Common.{length, ap, ◌∙◌}
-use Rattle.component_blocks.specs.Nest.{Nest}
+use Rattle.component_frames.specs.Nest.{Nest}
 use Rattle.component_blocks.proofs.Around.{depth_is}
 use Rattle.component_blocks.proofs.blocks.Blocks.depth.Goals as goal
 

@@ -1,7 +1,7 @@
 use Rattle.std.proofs.Common.{ap, ◌∙◌}
 use Rattle.component_items.specs.Kept.{may_have_each}
 use Rattle.component_meaning.specs.State.{standing_in}
-use Rattle.component_blocks.specs.Nest.{Nest}
+use Rattle.component_frames.specs.Nest.{Nest}
 use Rattle.component_blocks.proofs.Around.{is_none_from, each_by_rows}
 use Rattle.component_blocks.proofs.blocks.Blocks.may_have_each.Goals as goal
 

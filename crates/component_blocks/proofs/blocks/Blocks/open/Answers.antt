@@ -1,8 +1,8 @@
 use Rattle.std.proofs.Common.{◌∙◌, ap, sym}
 use Rattle.component_meaning.specs.State.{standing_in, rows_in, inside, rows_of}
-use Rattle.component_blocks.specs.declared.block.Block.{Block}
-use Rattle.component_blocks.specs.Nest.{Nest}
-use Rattle.component_blocks.specs.Blocks.{frame_of}
+use Rattle.component_frames.specs.declared.block.Block.{Block}
+use Rattle.component_frames.specs.Nest.{Nest}
+use Rattle.component_frames.specs.Blocks.{frame_of}
 use Rattle.component_blocks.proofs.Whole.{Begins, whole_opened, nest_opened}
 use Rattle.component_blocks.proofs.blocks.Blocks.open.Goals as goal
 

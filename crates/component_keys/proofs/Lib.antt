@@ -1,0 +1,2 @@
+pub mod NegatedKeys
+pub mod TextKeys

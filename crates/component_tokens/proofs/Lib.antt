@@ -1,3 +1,0 @@
-pub mod NegatedKeys
-pub mod TextKeys
-pub mod Whole

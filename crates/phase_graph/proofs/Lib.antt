@@ -1,0 +1,17 @@
+pub mod Blocks
+pub mod Starts
+pub mod Tables
+pub mod Changes
+pub mod Writes
+pub mod Stops
+pub mod Steps
+pub mod Areas
+pub mod First
+pub mod Views
+pub mod Lists
+pub mod Openings
+pub mod Quiet
+pub mod Turns
+pub mod Disposing
+pub mod EditLemmas
+pub mod Passes

@@ -1,0 +1,35 @@
+-- The graph over the rows of a plan, as contracts see it.
+use Rattle.std.specs.Prelude.{◌≡◌, ℕ, ◌+◌, Bool, List}
+use Rattle.values.specs.declared.plan.Noted.{Noted}
+use Rattle.values.specs.declared.plan.Plan.{Plan}
+use Rattle.store_fields.specs.declared.edit.Edit.{Edit}
+use Rattle.sources.specs.declared.opening.Opened.{Opened}
+
+pub record GraphState : Type 0 where
+  pub plan : Plan
+  -- each row with its value, version, colour and body
+  pub rows : List Opened
+  -- whether each owner is live
+  pub live : List Bool
+  -- the count of ticks when the phase opened, or, between phases, when the last one ended
+  pub base : ℕ
+  -- how many numbers were drawn since
+  pub drawn : ℕ
+  -- whether a phase is open
+  pub is_open : Bool
+  -- what was noted in the phase, in order of number
+  pub entries : List Noted
+  -- the edits that each pass has noted, in order, and room for how many each has
+  pub edits : List (List Edit)
+  pub edit_room : ℕ
+
+-- a version is the base and a number
+abbrev pub ticks_of : GraphState → ℕ
+ticks_of x = x.base + x.drawn
+
+-- a call of a phase leaves these as they are
+pub record StaysOpen (old new : GraphState) : Type 0 where
+  pub plan : new.plan ≡ old.plan
+  pub base : new.base ≡ old.base
+  pub is_open : new.is_open ≡ old.is_open
+  pub edit_room : new.edit_room ≡ old.edit_room

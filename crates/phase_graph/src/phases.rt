@@ -1,0 +1,71 @@
+//! Where a phase opens and ends, and settling.
+ghost use Rattle.std.specs.Prelude.{◌≡◌, ◌≤◌, ◌<◌, ◌+◌, ◌^◌, true, false, [], OnOk, OnErr};
+ghost use Rattle.values.specs.Reserved.{room_of};
+ghost use Rattle.phase_graph.specs.Table.{IsTable, IsStirred, IsSettled, begun, ended};
+
+use crate::table::Table;
+use std::mem;
+use still_rows::{Full, settle_memos};
+use values::{Noted, Reserved};
+
+impl Table {
+    /// Opens a phase, which notes in this list. The answer is the list that was there.
+    pub(crate) fn begin(&mut self, entries: Reserved<Noted>) -> Reserved<Noted>
+        requires table { IsTable self.old }
+        requires ticks { self.old.clock.base + self.old.clock.drawn < 2 ^ 62 }
+        requires empty { entries.list ≡ [] }
+        requires room { 66560 ≤ room_of entries }
+        ensures table { IsTable self.new }
+        ensures begun { self.new ≡ begun self.old entries }
+    {
+        self.full = None;
+        self.clock.base += u64::from(self.clock.drawn);
+        self.clock.drawn = 0;
+        self.clock.in_phase = true;
+        mem::replace(&mut self.clock.entries, entries)
+    }
+
+    /// Ends the phase, and puts this list in the place of what was noted, which is the answer.
+    pub(crate) fn end(&mut self, idle: Reserved<Noted>) -> Reserved<Noted>
+        requires table { IsTable self.old }
+        requires open { self.old.clock.in_phase ≡ true }
+        ensures table { IsTable self.new }
+        ensures ended { self.new ≡ ended self.old idle }
+        ensures entries { result ≡ self.old.clock.entries }
+    {
+        self.full = None;
+        self.clock.base += u64::from(self.clock.drawn);
+        self.clock.drawn = 0;
+        self.clock.in_phase = false;
+        mem::replace(&mut self.clock.entries, idle)
+    }
+
+    /// Brings every memo up to date. There are numbers for all.
+    pub(crate) fn settle(&mut self)
+        requires table { IsTable self.old }
+        requires closed { self.old.clock.in_phase ≡ false }
+        requires few { self.old.clock.drawn ≤ 8192 }
+        requires ticks { self.old.clock.base < 2 ^ 62 }
+        ensures table { IsTable self.new }
+        ensures settled { IsSettled self.old self.new }
+    {
+        let _ = self.stir_all();
+    }
+
+    /// Brings every memo up to date, as far as there are numbers for their new values.
+    fn stir_all(&mut self) -> Result<(), Full>
+        requires table { IsTable self.old }
+        requires ticks { self.old.clock.base < 2 ^ 62 }
+        ensures stirred { IsStirred self.old self.new }
+        ensures settled { OnOk result (IsSettled self.old self.new) }
+        ensures full { OnErr result (65536 ≤ self.new.clock.drawn) }
+    {
+        settle_memos(
+            self.plan.nodes.as_slice(),
+            self.rows.as_mut_slice(),
+            &mut self.readers,
+            &mut self.clock,
+            &mut self.work,
+        )
+    }
+}

@@ -1,0 +1,2 @@
+pub mod LastLanes
+pub mod Added

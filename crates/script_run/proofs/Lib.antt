@@ -1,0 +1,10 @@
+pub mod Lists
+pub mod Named
+pub mod Owned
+pub mod Targets
+pub mod Steps
+pub mod Asked
+pub mod Settlings
+pub mod Made
+pub mod Runs
+pub mod WorkedKept

@@ -1,0 +1,109 @@
+-- A run goes on by a phase.
+use Rattle.std.proofs.Common.{◌≡◌, ℕ, suc, ◌+◌, ◌<◌, Bool, true, false, cond, List, [], ◌∷◌, ◌++◌, length, map, take, sym, ap, subst, ◌∙◌, arith, append_assoc, refl}
+use Rattle.std.proofs.lemmas.List.{append-nil, length-map, take_more, length-take-le}
+use Rattle.component_items.specs.declared.component.Component.{Component}
+use Rattle.script_items.specs.declared.operation.ScriptOp.{ScriptOp}
+use Rattle.run_items.specs.declared.answer.Answer.{Answer}
+use Rattle.held_state.specs.State.{HeldState, first_state}
+use Rattle.plain_evaluation.specs.Held.{Held, first_held}
+use Rattle.plain_evaluation.specs.Scratch.{pending}
+use Rattle.run_meaning.specs.Ending.{report_if}
+use Rattle.run_meaning.specs.Lane.{Done}
+use Rattle.run_meaning.specs.Opened.{opened_of}
+use Rattle.run_meaning.specs.Phase.{Phase}
+use Rattle.run_meaning.specs.Report.{answer_lines, journal_lines}
+use Rattle.run_meaning.specs.Run.{Settled, more, after, phases_of, script_of, answers_of_lanes, answers_from, answers_of, journal_of, none, Runs, held_arrived}
+use Rattle.report_text.proofs.LineLemmas.{report_from-push}
+use Rattle.script_run.specs.declared.run.Ran.{Ran}
+use Rattle.script_run.specs.Lanes.{IsMade, lanes_at}
+use Rattle.script_run.specs.Ran.{IsRanTo, GoesOn}
+use Rattle.script_run.specs.Settlings.{Settles}
+use Rattle.still_graph.specs.declared.still.Stage.TheVariants.{Made}
+use Rattle.still_graph.specs.Still.{StillState, IsSettledAfter}
+use Rattle.script_run.proofs.Lists.{map_last}
+use Rattle.script_run.proofs.Asked.{lanes_behind}
+
+phases_last : (steps : List Settled) (s : Settled) → phases_of (steps ++ s ∷ []) ≡ phases_of steps ++ s.phase ∷ []
+phases_last steps s = map_last (λ (t : Settled). t.phase) steps s
+
+answers_last : (n : ℕ) (ps : List Phase) (p : Phase) (k : ℕ) → k ≡ n + length ps → answers_from n (ps ++ p ∷ []) ≡ answers_from n ps ++ answers_of_lanes k 1 p.lanes
+answers_last n [] p k e = let f : n ≡ k = omega arith in append-nil (answers_of_lanes n 1 p.lanes) ∙ ap (λ (m : ℕ). answers_of_lanes m 1 p.lanes) f
+answers_last n (q ∷ ps) p k e =
+    ap (λ (t : List Answer). answers_of_lanes n 1 q.lanes ++ t) (answers_last (suc n) ps p k (omega arith))
+    ∙ sym (append_assoc (answers_of_lanes n 1 q.lanes) (answers_from (suc n) ps) (answers_of_lanes k 1 p.lanes))
+
+-- the phases that were run are as many as those of the script
+pub as_many : (ps : List Phase) (script : List (List (List ScriptOp))) (before : ℕ) → before < length script → script_of ps ≡ take before script → length ps ≡ before
+as_many ps script before l e =
+    let a = length-map ps (λ (p : Phase). map (map (λ (d : Done). d.op)) p.lanes) in
+    let b : length (script_of ps) ≡ length (take before script) = ap length e in
+    let c = length-take-le before script (omega arith) in
+    omega arith
+
+script_last : (ps : List Phase) (p : Phase) (script : List (List (List ScriptOp))) (before : ℕ) → before < length script → script_of ps ≡ take before script → map (map (λ d. d.op)) p.lanes ≡ lanes_at script (before + 1) → script_of (ps ++ p ∷ []) ≡ take (before + 1) script
+script_last ps p script before l e ops =
+    map_last (λ (q : Phase). map (map (λ (d : Done). d.op)) q.lanes) ps p
+    ∙ (λ i. e i ++ (ops ∙ lanes_behind script before) i ∷ [])
+    ∙ sym (take_more script before [] l)
+
+-- the lines of a phase, where they are asked for
+abbrev pub lines_if : Bool → List (List ℕ) → ℕ → Phase → List ℕ
+lines_if asked texts n p = cond asked (answer_lines texts n 1 p.lanes ++ journal_lines texts p.opened.plan.owners n p.entries) []
+
+report_more : (asked : Bool) (component : Component) (ps : List Phase) (p : Phase) (n : ℕ) (old new : List ℕ) → n ≡ 1 + length ps → old ≡ report_if asked component ps → new ≡ old ++ lines_if asked component.texts n p → new ≡ report_if asked component (ps ++ p ∷ [])
+report_more true component ps p n old new k was is =
+    is ∙ ap (λ (t : List ℕ). t ++ lines_if true component.texts n p) was ∙ sym (report_from-push component.texts 1 n ps p k)
+report_more false component ps p n old new k was is = is ∙ append-nil old ∙ was
+
+pub runs_on : (component : Component) (script : List (List (List ScriptOp))) (asked : Bool) (before : ℕ) (old new : Ran) (mid : StillState) (p : Phase)
+    → before < length script → (so_far : GoesOn component (take before script) asked old) → IsMade (phases_of so_far.to.steps) old.still (lanes_at script (before + 1)) p mid
+    → mid.component ≡ component → Settles mid new.still
+    → new.answers ≡ old.answers ++ answers_of_lanes (before + 1) 1 p.lanes
+    → new.report.items ≡ old.report.items ++ lines_if asked component.texts (before + 1) p
+    → new.pending ≡ pending new.still.component new.still.state.held
+    → GoesOn component (take (before + 1) script) asked new
+runs_on component script asked before old new mid p l so_far made same settles answers lines waiting =
+    let steps : List Settled = so_far.to.steps in
+    let past : List Phase = phases_of steps in
+    let ended = settles.ended past p made.ended in
+    let s : Settled = record { phase = p; held = new.still.state.held } in
+    let last : phases_of (steps ++ s ∷ []) ≡ past ++ p ∷ [] = phases_last steps s in
+    let many : length past ≡ before = as_many past script before l so_far.to.script_is in
+    let is_component : new.still.component ≡ component = settles.component ∙ same in
+    let to : IsRanTo component (take (before + 1) script) asked new = record {
+      keys = so_far.to.keys;
+      steps = steps ++ s ∷ [];
+      runs = more s ended.0 so_far.to.runs (made.opened ∙ ap (λ (c : Component). opened_of c old.still.state.held) so_far.to.component_is) made.is_phase (ended.1 ∙ ap (λ (c : Component). after c p ended.0) same);
+      script_is = ap script_of last ∙ script_last past p script before l so_far.to.script_is made.ops_are;
+      answers_are = ap answers_of last ∙ answers_last 1 past p (before + 1) (omega arith) ∙ ap (λ (t : List Answer). t ++ answers_of_lanes (before + 1) 1 p.lanes) so_far.to.answers_are ∙ sym answers;
+      journal_is = ap journal_of last ∙ sym ended.2.journal;
+      report_is = report_more asked component past p (before + 1) old.report.items new.report.items (omega arith) so_far.to.report_is lines ∙ ap (report_if asked component) (sym last);
+      pending_is = waiting ∙ ap (λ (c : Component). pending c new.still.state.held) is_component;
+      component_is = is_component;
+    } in
+    record { to = to; settled = subst (λ (ps : List Phase). IsSettledAfter ps new.still) (sym last) ended.2 }
+
+-- ---- before the first phase
+
+no_lines : (asked : Bool) (component : Component) → [] ≡ report_if asked component []
+no_lines true component = refl
+no_lines false component = refl
+
+pub begins : (component : Component) (asked : Bool) (made : StillState) (ran : Ran) → made.component ≡ component → made.state ≡ first_state component → made.stage ≡ Made → Settles made ran.still
+    → ran.answers ≡ [] → ran.report.items ≡ [] → ran.pending ≡ pending ran.still.component ran.still.state.held → GoesOn component [] asked ran
+begins component asked made ran same state stage settles answers lines waiting =
+    let first = settles.made stage in
+    let is_component : ran.still.component ≡ component = settles.component ∙ same in
+    let held : ran.still.state.held ≡ held_arrived first.0 (first_held component) = first.1 ∙ ap (λ (s : HeldState). held_arrived first.0 s.held) state in
+    let to : IsRanTo component [] asked ran = record {
+      keys = first.0;
+      steps = [];
+      runs = subst (λ (h : Held). Runs component (held_arrived first.0 (first_held component)) [] h) (sym held) none;
+      script_is = refl;
+      answers_are = sym answers;
+      journal_is = sym first.2.journal;
+      report_is = lines ∙ no_lines asked component;
+      pending_is = waiting ∙ ap (λ (c : Component). pending c ran.still.state.held) is_component;
+      component_is = is_component;
+    } in
+    record { to = to; settled = first.2 }

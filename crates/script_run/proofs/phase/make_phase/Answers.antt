@@ -1,0 +1,18 @@
+use Rattle.std.proofs.Common.{ap}
+use Rattle.plain_evaluation.proofs.Fitting.{rows_of_held}
+use Rattle.run_meaning.specs.Opened.{opened_of}
+use Rattle.script_run.specs.Lanes.{lanes_at}
+use Rattle.still_graph.specs.Still.{StillState}
+use Rattle.script_run.proofs.Made.{phase_made}
+use Rattle.script_run.proofs.phase.make_phase.Goals as goal
+
+pub returns-clause-made : goal.returns-clause-made
+returns-clause-made g c = λ past settled fits.
+    let old : StillState = c.args.still.now in
+    let x : StillState = c.begin.new.self in
+    let y : StillState = c.run_lanes.new.still in
+    phase_made past old x y c.end.new.self c.args.phase (lanes_at c.args.script.now c.args.phase) c.args.answers.now c.run_lanes.new.answers
+    c.calls_make_phases.ensures.as_told
+    (c.targets_of_components_fit.ensures old.component old.state.held c.requires.kept (rows_of_held old.component old.state.held c.requires.fits))
+    (ap (λ (z : StillState). opened_of z.component z.state.held) c.in_ok-begin.ensures.rest) c.in_ok-begin.ensures.passes_are c.in_ok-run_lanes.ensures
+    (c.in_ok-begin.ensures.opened past settled) fits c.requires.today (c.end.ensures.ended past)

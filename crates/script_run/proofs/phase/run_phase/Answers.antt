@@ -1,0 +1,69 @@
+use Rattle.std.proofs.Common.{◌≡◌, ℕ, suc, ◌+◌, ◌++◌, List, [], length, drop, length-append, sym, ap, subst, ◌∙◌, arith}
+use Rattle.std.specs.List.{All}
+use Rattle.std.proofs.Math.Seq.{drop-append_seam}
+use Rattle.component_items.specs.declared.component.Component.{Component}
+use Rattle.script_items.specs.declared.operation.ScriptOp.{ScriptOp}
+use Rattle.script_items.specs.KeptFor.{NamesMembers}
+use Rattle.script_items.specs.Members.{members_of}
+use Rattle.run_meaning.specs.Phase.{Phase}
+use Rattle.run_items.specs.declared.answer.Answer.{Answer}
+use Rattle.run_meaning.specs.Run.{phases_of, answers_of_lanes}
+use Rattle.script_run.specs.declared.run.Ran.{Ran}
+use Rattle.script_run.specs.Today.{LanesRun}
+use Rattle.script_run.proofs.Asked.{lanes_behind}
+use Rattle.script_run.proofs.Made.{run_held, run_owners, past_fits}
+use Rattle.script_run.proofs.Runs.{as_many, lines_if, runs_on}
+use Rattle.script_run.proofs.Steps.{not_open}
+use Rattle.script_run.proofs.phase.run_phase.Goals as goal
+
+pub make_phase-requires-clause-fits : goal.make_phase-requires-clause-fits
+make_phase-requires-clause-fits g c κs within =
+    let to = c.requires.so_far.to in
+    (run_held c.args.ran.now.still.component c.requires.kept to.keys to.steps c.args.ran.now.still.state.held to.runs).fits
+
+pub make_phase-requires-clause-owners : goal.make_phase-requires-clause-owners
+make_phase-requires-clause-owners g c κs within =
+    let to = c.requires.so_far.to in
+    (run_owners c.args.ran.now.still.component c.requires.kept to.keys to.steps c.args.ran.now.still.state.held to.runs).long
+
+pub make_phase-requires-clause-named : goal.make_phase-requires-clause-named
+make_phase-requires-clause-named g c κs within =
+    subst (λ (lanes : List (List ScriptOp)). All (All (NamesMembers (members_of c.args.ran.now.still.component.items))) lanes) (sym (lanes_behind c.args.script.now c.args.before)) (c.requires.named c.args.before [] c.requires.within)
+
+pub make_phase-requires-clause-today : goal.make_phase-requires-clause-today
+make_phase-requires-clause-today g c κs within =
+    subst LanesRun (sym (lanes_behind c.args.script.now c.args.before)) (c.requires.today.phases c.args.before [] c.requires.within)
+
+pub answers_behind-answers-requires : goal.answers_behind-answers-requires
+answers_behind-answers-requires g c =
+    let to = c.requires.so_far.to in
+    let fits = past_fits c.args.ran.now.still.component c.requires.kept to.keys to.steps c.args.ran.now.still.state.held to.runs in
+    let made = c.in_ok-make_phase.ensures.made (phases_of to.steps) c.requires.so_far.settled fits in
+    let long = ap length made.2 ∙ length-append c.args.ran.now.answers (answers_of_lanes (c.args.before + 1) 1 made.0.lanes) in
+    omega (arith, long, c.len-first.ensures)
+
+pub settle_rounds-requires-clause-closed : goal.settle_rounds-requires-clause-closed
+settle_rounds-requires-clause-closed g c =
+    let to = c.requires.so_far.to in
+    let fits = past_fits c.args.ran.now.still.component c.requires.kept to.keys to.steps c.args.ran.now.still.state.held to.runs in
+    let made = c.in_ok-make_phase.ensures.made (phases_of to.steps) c.requires.so_far.settled fits in
+    not_open c.make_phase.new.still.stage made.1.ended.stage
+
+pub returns-clause-goes_on : goal.returns-clause-goes_on
+returns-clause-goes_on g c =
+    let component : Component = c.args.ran.now.still.component in
+    let script : List (List (List ScriptOp)) = c.args.script.now in
+    let old : Ran = c.args.ran.now in
+    let new : Ran = record { still = c.settle_rounds.new.still; answers = c.make_phase.new.answers; report = c.put_lines.new.out; pending = c.in_ok-ran.field-0 } in
+    let to = c.requires.so_far.to in
+    let past : List Phase = phases_of to.steps in
+    let fits = past_fits component c.requires.kept to.keys to.steps old.still.state.held to.runs in
+    let made = c.in_ok-make_phase.ensures.made past c.requires.so_far.settled fits in
+    let p : Phase = made.0 in
+    let many : length past ≡ c.args.before = as_many past script c.args.before c.requires.within to.script_is in
+    let same : c.make_phase.new.still.component ≡ component = c.in_ok-make_phase.ensures.component in
+    let more : List Answer = answers_of_lanes (c.args.before + 1) 1 p.lanes in
+    let behind : c.answers_behind-answers.result.now ≡ more = c.answers_behind-answers.ensures ∙ ap (λ (k : ℕ). drop k c.make_phase.new.answers) c.len-first.ensures ∙ ap (drop (length old.answers)) made.2 ∙ drop-append_seam old.answers more in
+    let here : c.args.before + 1 ≡ suc (length past) = omega arith in
+    let lines = c.in_ok-put_lines.ensures past p made.1.ended here behind ∙ ap (λ (x : Component). old.report.items ++ lines_if c.args.asked x.texts (c.args.before + 1) p) same in
+    runs_on component script c.args.asked c.args.before old new c.make_phase.new.still p c.requires.within c.requires.so_far made.1 same c.in_ok-ran.ensures.settles made.2 lines c.in_ok-ran.ensures.pending

@@ -1,0 +1,80 @@
+-- What the operations of a phase's lanes leave of a graph whose phase is open.
+use Rattle.std.specs.Prelude.{◌≡◌, ℕ, List, [], ◌∷◌, ◌++◌, length, map, unwrap_or}
+use Rattle.std.specs.List.{AllByRecursion}
+use Rattle.std.specs.Option.{option_and_then}
+use Rattle.component_items.specs.Kept.{IsKept}
+use Rattle.script_items.specs.declared.operation.ScriptOp.{ScriptOp}
+use Rattle.script_items.specs.Script.{numbered}
+use Rattle.run_items.specs.declared.answer.Answer.{Answer}
+use Rattle.run_items.specs.declared.answer.Reply.{Reply}
+use Rattle.plain_evaluation.specs.Fits.{Fits}
+use Rattle.plan_meaning.specs.Owners.{plan_owners}
+use Rattle.run_meaning.specs.Lane.{Done}
+use Rattle.run_meaning.specs.Phase.{Phase}
+use Rattle.run_meaning.specs.Run.{IsPhase, answers_of_lane, answers_of_lanes}
+use Rattle.run_history.specs.Going.{Going, just_opened}
+use Rattle.run_history.specs.Calls.{MadeCall, CallsLead, calls_by}
+use Rattle.run_weave.specs.Lanes.{LaneSpeaks, LanesSpeak}
+use Rattle.still_graph.specs.declared.still.Stage.TheVariants.{Open}
+use Rattle.still_graph.specs.Still.{StillState, opened_in, start_in, IsOpenAt, HasEnded}
+
+-- a phase is open, over rows that are laid out from a state of the component
+pub record IsOpenOver (x : StillState) : Type 0 where
+  pub stage : x.stage ≡ Open
+  pub plan : x.graph.plan ≡ (opened_in x).plan
+  pub kept : IsKept x.component
+  pub fits : Fits x.component x.state.held
+  pub owners : length x.state.held.live ≡ length (plan_owners x.component)
+
+-- the rows alone moved on, in the same phase
+pub record IsSamePhase (old new : StillState) : Type 0 where
+  pub rest : new ≡ record old { graph = new.graph }
+  pub plan : new.graph.plan ≡ old.graph.plan
+  pub base : new.graph.base ≡ old.graph.base
+  pub passes : length new.graph.edits ≡ length old.graph.edits
+
+-- the phase that is open behind these stands where the lane of its first pass is when it has done so
+pub record IsAtOp (past : List Phase) (x : StillState) (lane : List Done) : Type 0 where
+  pub calls : List MadeCall
+  pub going : Going
+  pub lead : CallsLead (start_in past x) just_opened calls going
+  pub open_at : IsOpenAt past going x
+  pub by_one : AllByRecursion (λ m. m.pass ≡ 1) calls
+  pub speaks : LaneSpeaks (opened_in x) (calls_by 1 calls) lane
+
+-- the operation is answered so, whatever the lane did before
+abbrev pub DoesNext : StillState → ScriptOp → Reply → StillState → Type 0
+DoesNext x asked r y = (past : List Phase) (lane : List Done) → IsAtOp past x lane → IsAtOp past y (lane ++ record { op = asked; reply = r } ∷ [])
+
+-- the phase that is open behind these stands where its lanes are when they have done all this
+pub record IsThrough (past : List Phase) (x : StillState) (lanes : List (List Done)) : Type 0 where
+  pub calls : List MadeCall
+  pub going : Going
+  pub lead : CallsLead (start_in past x) just_opened calls going
+  pub open_at : IsOpenAt past going x
+  pub speak : LanesSpeak (opened_in x) calls lanes
+
+-- the lane of the first pass did all that was asked, and was answered so
+pub record HasDone (phase : ℕ) (asked : List ScriptOp) (old new : StillState) (before behind : List Answer) : Type 0 where
+  pub same : IsSamePhase old new
+  pub done : (past : List Phase) → IsAtOp past old [] → (lane : List Done) × IsAtOp past new lane × (map (λ d. d.op) lane ≡ asked) × (behind ≡ before ++ answers_of_lane phase 1 1 lane)
+
+-- all lanes did
+pub record HaveDone (phase : ℕ) (asked : List (List ScriptOp)) (old new : StillState) (before behind : List Answer) : Type 0 where
+  pub same : IsSamePhase old new
+  pub done : (past : List Phase) → IsOpenAt past just_opened old → (lanes : List (List Done)) × IsThrough past new lanes × (map (map (λ d. d.op)) lanes ≡ asked) × (behind ≡ before ++ answers_of_lanes phase 1 lanes)
+
+-- the operations of the first lane of a phase
+abbrev pub first_ops : List (List (List ScriptOp)) → ℕ → List ScriptOp
+first_ops script phase = unwrap_or (option_and_then (λ lanes. numbered lanes 1) (numbered script phase)) []
+
+-- the lanes of a phase
+abbrev pub lanes_at : List (List (List ScriptOp)) → ℕ → List (List ScriptOp)
+lanes_at script phase = unwrap_or (numbered script phase) []
+
+-- this phase of these operations was opened behind those before it, made and ended
+pub record IsMade (past : List Phase) (old : StillState) (ops : List (List ScriptOp)) (p : Phase) (new : StillState) : Type 0 where
+  pub opened : p.opened ≡ opened_in old
+  pub is_phase : IsPhase past p
+  pub ops_are : map (map (λ d. d.op)) p.lanes ≡ ops
+  pub ended : HasEnded past p new

@@ -1,0 +1,5 @@
+pub mod Today
+pub mod Lanes
+pub mod Settlings
+pub mod Ran
+pub mod Worked

@@ -1,0 +1,14 @@
+//! The run of a script over the graph of its component.
+#![tactic(auto)]
+
+mod lane;
+mod phase;
+mod run;
+mod settling;
+mod today;
+
+pub use run::{Ran, run_script};
+pub use today::runs_today;
+
+#[cfg(test)]
+mod tests;

@@ -1,0 +1,145 @@
+//! One phase of a run.
+ghost use Rattle.std.specs.Prelude.{◌≡◌, ◌≢◌, ◌≤◌, ◌<◌, ◌+◌, ◌-◌, ◌^◌, ◌∷◌, ◌++◌, [], ℕ, suc, true, false, All, List, length, map, take, drop, OnOk, if◌then◌else◌};
+ghost use Rattle.script_items.specs.KeptFor.{AllOps, NamesMembers};
+ghost use Rattle.script_items.specs.Members.{members_of};
+ghost use Rattle.component_items.specs.Kept.{IsKept};
+ghost use Rattle.plain_evaluation.specs.Fits.{Fits};
+ghost use Rattle.plan_meaning.specs.Owners.{plan_owners};
+ghost use Rattle.run_history.specs.Going.{just_opened};
+ghost use Rattle.run_history.specs.History.{PastFits};
+ghost use Rattle.run_meaning.specs.Lane.{Done};
+ghost use Rattle.run_meaning.specs.Phase.{Phase};
+ghost use Rattle.run_meaning.specs.Report.{answer_lines, journal_lines};
+ghost use Rattle.run_meaning.specs.Run.{answers_of_lanes};
+ghost use Rattle.phase_graph.specs.Graph.{ticks_of};
+ghost use Rattle.script_run.specs.Lanes.{IsOpenOver, HaveDone, IsMade, lanes_at};
+ghost use Rattle.still_graph.specs.Loads.{has_load};
+ghost use Rattle.script_run.specs.Ran.{GoesOn};
+ghost use Rattle.still_graph.specs.Still.{opened_in, IsSettledAfter, IsOpenAt, HasEnded};
+ghost use Rattle.script_run.specs.Today.{LanesRun, RunsToday};
+ghost use Rattle.still_graph.specs.declared.still.Stage.TheVariants as stage;
+
+use crate::lane::run_lane;
+use crate::run::Ran;
+use crate::settling::settle_rounds;
+use outside::{Gate, Loader};
+use report_text::put_phase;
+use run_items::{Answer, Answers};
+use run_weave::laws::{calls_make_phases, lanes_make_all_calls, targets_of_components_fit};
+use script_items::Script;
+use std::alloc::Global;
+use still_graph::Still;
+use values::NoMemory;
+
+/// Makes the operations of all lanes of the phase, of which there is one at the most.
+fn run_lanes<G: Gate>(
+    still: &mut Still,
+    script: &Script,
+    phase: u32,
+    gate: &G,
+    answers: &mut Answers,
+) -> Result<(), NoMemory>
+    requires open { IsOpenOver still.old }
+    requires named { All (All (NamesMembers (members_of still.old.component.items))) (lanes_at script.now phase) }
+    requires today { LanesRun (lanes_at script.now phase) }
+    ensures { OnOk result (HaveDone phase (lanes_at script.now phase) still.old still.new answers.old answers.new) }
+{
+    lanes_make_all_calls();
+    let lanes = script.lanes(phase).unwrap_or(0);
+    if lanes == 0 {
+        return Ok(());
+    }
+    run_lane(still, script, phase, gate, answers)
+}
+
+/// Opens the phase, makes its operations and ends it. After want of memory some of them may be made.
+fn make_phase<G: Gate>(
+    still: &mut Still,
+    alloc: Global,
+    script: &Script,
+    phase: u32,
+    gate: &G,
+    answers: &mut Answers,
+) -> Result<(), NoMemory>
+    requires settled { (past : List Phase) × IsSettledAfter past still.old }
+    requires kept { IsKept still.old.component }
+    requires fits { Fits still.old.component still.old.state.held }
+    requires owners { length still.old.state.held.live ≡ length (plan_owners still.old.component) }
+    requires ticks { ticks_of still.old.graph < 2 ^ 61 }
+    requires named { All (All (NamesMembers (members_of still.old.component.items))) (lanes_at script.now phase) }
+    requires today { LanesRun (lanes_at script.now phase) }
+    ensures component { OnOk result (still.new.component ≡ still.old.component) }
+    ensures ticks { OnOk result (ticks_of still.new.graph ≤ ticks_of still.old.graph + 2 ^ 31) }
+    ensures made { OnOk result ((past : List Phase) → IsSettledAfter past still.old → PastFits past (opened_in still.old) → (p : Phase) × IsMade past still.old (lanes_at script.now phase) p still.new
+        × (answers.new ≡ answers.old ++ answers_of_lanes phase 1 p.lanes)) }
+{
+    calls_make_phases();
+    targets_of_components_fit();
+    still.begin(alloc, 1, 0)?;
+    run_lanes(still, script, phase, gate, answers)?;
+    still.end();
+    Ok(())
+}
+
+/// The answers behind the first so many.
+fn answers_behind(answers: &Answers, first: usize) -> &[Answer]
+    requires { first ≤ length answers.now }
+    ensures { result.now ≡ drop first answers.now }
+{
+    &answers.as_slice()[first..]
+}
+
+/// Adds the lines of the phase that has just ended, where they are asked for. Phases count from 1.
+fn put_lines(
+    out: &mut Vec<u8>,
+    asked: bool,
+    still: &Still,
+    phase: u32,
+    answers: &[Answer],
+) -> Result<(), NoMemory>
+    ensures { OnOk result ((past : List Phase) (p : Phase) → HasEnded past p still.now → phase ≡ suc (length past) → answers.now ≡ answers_of_lanes phase 1 p.lanes →
+        out.new.items ≡ out.old.items ++ (if asked then answer_lines still.now.component.texts phase 1 p.lanes ++ journal_lines still.now.component.texts p.opened.plan.owners phase p.entries else [])) }
+{
+    if !asked {
+        return Ok(());
+    }
+    let Some(entries) = still.journal().entries(phase) else {
+        return Ok(());
+    };
+    let texts = still.component().texts();
+    let owners = still.plan().owners.as_slice();
+    put_phase(out, texts, phase, answers, owners, entries)
+}
+
+/// Runs the phase behind as many as were run before: opens it, makes its operations, ends it, adds its lines where they
+/// are asked for, and settles.
+pub(crate) fn run_phase<L: Loader, G: Gate>(
+    ran: &mut Ran,
+    alloc: Global,
+    script: &Script,
+    before: u32,
+    asked: bool,
+    rounds: u32,
+    loader: &mut L,
+    gate: &G,
+) -> Result<(), NoMemory>
+    requires within { before < length script.now }
+    requires few { length script.now ≤ 64 }
+    requires named { AllOps (NamesMembers (members_of ran.old.still.component.items)) script.now }
+    requires today { RunsToday ran.old.still.component script.now }
+    requires kept { IsKept ran.old.still.component }
+    requires rounds { 1 ≤ rounds }
+    requires ticks { ticks_of ran.old.still.graph < 2 ^ 60 }
+    requires so_far { GoesOn ran.old.still.component (take before script.now) asked ran.old }
+    ensures component { OnOk result (ran.new.still.component ≡ ran.old.still.component) }
+    ensures ticks { OnOk result (ticks_of ran.new.still.graph ≤ ticks_of ran.old.still.graph + 2 ^ 47) }
+    ensures goes_on { OnOk result (GoesOn ran.old.still.component (take (before + 1) script.now) asked ran.new) }
+{
+    let phase = before + 1;
+    let first = ran.answers.len();
+    make_phase(&mut ran.still, alloc, script, phase, gate, &mut ran.answers)?;
+    let answers = answers_behind(&ran.answers, first);
+    put_lines(&mut ran.report, asked, &ran.still, phase, answers)?;
+    ran.pending = settle_rounds(&mut ran.still, alloc, loader, rounds)?;
+    Ok(())
+}

@@ -1,7 +1,0 @@
-//! What each token does.
-
-mod inserts;
-mod keys;
-mod literals;
-mod paths;
-mod phases;

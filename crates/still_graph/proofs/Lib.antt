@@ -1,0 +1,15 @@
+pub mod HoldsLoad
+pub mod Lines
+pub mod Bare
+pub mod Owners
+pub mod Rows
+pub mod Values
+pub mod Fold
+pub mod Written
+pub mod Past
+pub mod Steps
+pub mod Moves
+pub mod PhaseEnds
+pub mod Begins
+pub mod Kept
+pub mod WorkedKept

@@ -1,0 +1,118 @@
+//! Settling.
+ghost use Rattle.std.specs.Prelude.{◌≡◌, ◌≢◌, ◌≤◌, ◌<◌, ◌+◌, ◌^◌, ◌++◌, ◌∷◌, [], ℕ, List, false, Option as OptionOf, OnOk, OnErr, IfOk};
+ghost use Rattle.values.specs.declared.code.Code.{Code as CodeValue};
+ghost use Rattle.plain_evaluation.specs.Scratch.{pending};
+ghost use Rattle.run_meaning.specs.Phase.{Phase};
+ghost use Rattle.run_meaning.specs.Run.{held_arrived, after};
+ghost use Rattle.phase_graph.specs.Graph.{ticks_of};
+ghost use Rattle.still_graph.specs.Loads.{has_load};
+ghost use Rattle.still_graph.specs.Still.{IsSettledAfter, HasEnded};
+
+use crate::folding::fold_writes;
+use crate::still::{Stage, Still};
+use outside::Loader;
+use std::alloc::Global;
+use values::{NoMemory, Sequence};
+
+/// Why a load is pending.
+#[derive(Clone, Copy, Debug, PartialEq, Eq)]
+pub enum Late {
+    /// Its value has not arrived yet.
+    NotYet,
+    /// The call that asked for it failed.
+    Failed,
+}
+
+/// The loads that are pending, by their ids, with why, in order of declaration.
+pub type Pending = Sequence<(u32, Late)>;
+
+/// How a settling ended.
+#[derive(Debug, Drop)]
+pub enum Settled {
+    /// All is settled.
+    Whole,
+    /// These loads are pending. All else is settled.
+    Waiting(Pending),
+}
+
+impl Still {
+    ghost use Rattle.still_graph.specs.Answers.{ids_of};
+
+    /// Settles the graph: held state takes what the last phase wrote, and each memo has its value. No effect runs. As
+    /// yet it works with no loads, so the loader isn't asked, and it takes no memory.
+    pub fn settle<L: Loader>(
+        &mut self,
+        _alloc: Global,
+        _loader: &mut L,
+    ) -> Result<Settled, NoMemory>
+        requires closed { self.old.stage ≢ Stage.Open }
+        requires ticks { ticks_of self.old.graph < 2 ^ 62 }
+        requires no_loads { has_load self.old.component.items ≡ false }
+        ensures component { self.new.component ≡ self.old.component }
+        ensures stage { OnOk result (self.new.stage ≡ Stage.Settled) }
+        ensures first { OnOk result (self.old.stage ≡ Stage.Made → (keys : ℕ → OptionOf CodeValue) × (self.new.state.held ≡ held_arrived keys self.old.state.held) × IsSettledAfter [] self.new) }
+        ensures after { OnOk result ((past : List Phase) (p : Phase) → HasEnded past p self.old → (keys : ℕ → OptionOf CodeValue) × (self.new.state.held ≡ after self.old.component p keys) × IsSettledAfter (past ++ p ∷ []) self.new) }
+        ensures again { OnOk result (self.old.stage ≡ Stage.Settled → (keys : ℕ → OptionOf CodeValue) × (self.new.state.held ≡ held_arrived keys self.old.state.held) × ((past : List Phase) → IsSettledAfter past self.old → IsSettledAfter past self.new)) }
+        ensures pending { IfOk result (λ settled. ids_of settled ≡ pending self.new.component self.new.state.held) }
+        ensures ticks_raised { ticks_of self.new.graph ≤ ticks_of self.old.graph + 16384 }
+        ensures unchanged { OnErr result (self.new ≡ self.old) }
+    {
+        self.settle_now();
+        Ok(Settled::Whole)
+    }
+}
+
+impl Still {
+    ghost use Rattle.still_graph.specs.Settling.{Settles};
+
+    fn settle_now(&mut self)
+        requires closed { self.old.stage ≢ Stage.Open }
+        requires ticks { ticks_of self.old.graph < 2 ^ 62 }
+        requires no_loads { has_load self.old.component.items ≡ false }
+        ensures { Settles self.old self.new }
+    {
+        if self.stage == Stage::Made {
+            self.settle_first();
+            return;
+        }
+        if self.stage == Stage::Ended {
+            self.settle_phase();
+            return;
+        }
+        self.stays_settled();
+    }
+
+    /// What is settled stays as it is.
+    fn stays_settled(&self)
+        requires settled { self.now.stage ≡ Stage.Settled }
+        requires no_loads { has_load self.now.component.items ≡ false }
+        ensures { Settles self.now self.now }
+    {
+        let _names = &self.names;
+    }
+
+    /// Settles a graph of which nothing ran yet.
+    fn settle_first(&mut self)
+        requires made { self.old.stage ≡ Stage.Made }
+        requires ticks { ticks_of self.old.graph < 2 ^ 62 }
+        requires no_loads { has_load self.old.component.items ≡ false }
+        ensures { Settles self.old self.new }
+    {
+        let _plan = self.graph.plan();
+        self.graph.settle();
+        self.stage = Stage::Settled;
+    }
+
+    /// Settles the phase that has ended.
+    fn settle_phase(&mut self)
+        requires ended { self.old.stage ≡ Stage.Ended }
+        requires ticks { ticks_of self.old.graph < 2 ^ 62 }
+        requires no_loads { has_load self.old.component.items ≡ false }
+        ensures { Settles self.old self.new }
+    {
+        let _plan = self.graph.plan();
+        fold_writes(&mut self.held, &self.names, &self.graph);
+        self.graph.settle();
+        self.stage = Stage::Settled;
+    }
+}

@@ -1,0 +1,210 @@
+//! The object.
+ghost use Rattle.std.specs.Prelude.{◌≡◌, ◌≢◌, [], IfOk, IfErr, slice_get};
+ghost use Rattle.std.specs.Option.{option_map, option_copied};
+ghost use Rattle.values.specs.Packing.{unpacked};
+ghost use Rattle.component_items.specs.Kept.{IsKept};
+ghost use Rattle.held_state.specs.State.{IsOf, first_state};
+ghost use Rattle.plain_evaluation.specs.Written.{state_of};
+ghost use Rattle.plan_meaning.specs.Layout.{plan_of};
+ghost use Rattle.phase_graph.specs.Graph.{ticks_of};
+ghost use Rattle.still_graph.specs.Still.{opened_in};
+ghost use Rattle.still_graph.specs.Answers.{target_of};
+
+use crate::begun::Begun;
+use crate::journal::Journal;
+use component_items::Component;
+use held_state::Held;
+use node_names::{Names, NodePlace};
+use phase_graph::Graph;
+use sources::{Body, Colour};
+use std::alloc::Global;
+use std::marker::Model;
+use values::{Code, NoMemory, Plan};
+
+/// How far a graph is.
+#[derive(Clone, Copy, Debug, PartialEq, Eq)]
+pub enum Stage {
+    /// Nothing was settled yet.
+    Made,
+    /// All is settled: a phase may open.
+    Settled,
+    /// A phase is open.
+    Open,
+    /// A phase ended, and waits to be settled.
+    Ended,
+}
+
+/// What an id, with the key of a store row or none, stands for in the phase that is open, or that may open.
+#[derive(Clone, Copy, Debug, PartialEq, Eq)]
+pub enum Target {
+    /// This row of the plan.
+    Row(u32),
+    /// A store row that is not there, of a store that is live.
+    NoRow,
+    /// What this owner owned, which is dead.
+    Dead(u32),
+}
+
+/// The graph of a component. Contracts see the component, its held state, the rows of its plan with their places, the
+/// journal, and how far it is.
+#[derive(Drop)]
+pub struct Still {
+    pub(crate) component: Component,
+    pub(crate) held: Held,
+    pub(crate) names: Names,
+    pub(crate) graph: Graph,
+    pub(crate) journal: Journal,
+    pub(crate) stage: Stage,
+}
+
+impl Model for Still {
+    ghost use Rattle.std.specs.Coded.{codes};
+    ghost use Rattle.component_items.specs.contracts.component.Component as parts_model;
+    ghost use Rattle.held_state.specs.contracts.held.Held as held_model;
+    ghost use Rattle.phase_graph.specs.contracts.graph.Graph as graph_model;
+    ghost use Rattle.still_graph.specs.Still.{StillState};
+    ghost use Rattle.still_graph.specs.Stands.{still_of, IsStill};
+
+    ghost Value = { StillState };
+
+    ghost coded = { Prim.hlevel (codes, parts_model.the_row.coded, held_model.the_row.coded, graph_model.the_row.coded) };
+
+    ghost view = { λ s. still_of s.component s.held s.names s.graph s.journal.phases s.stage };
+
+    ghost invariant = { λ s. IsStill (still_of s.component s.held s.names s.graph s.journal.phases s.stage) s.journal.spare };
+}
+
+impl Still {
+    /// The graph of the component before anything ran. After want of memory the component is handed back.
+    pub fn new(alloc: Global, component: Component) -> Result<Still, (Component, NoMemory)>
+        ensures component { IfOk result (λ still. still.component ≡ component) }
+        ensures state { IfOk result (λ still. still.state ≡ first_state component) }
+        ensures journal { IfOk result (λ still. still.journal ≡ []) }
+        ensures stage { IfOk result (λ still. still.stage ≡ Stage.Made) }
+        ensures ticks { IfOk result (λ still. ticks_of still.graph ≡ 0) }
+        ensures back { IfErr result (λ back. back.0 ≡ component) }
+    {
+        match Begun::new(alloc, &component) {
+            Ok(begun) => Ok(Still::of(component, begun)),
+            Err(no_memory) => Err((component, no_memory)),
+        }
+    }
+
+    /// The component.
+    pub fn component(&self) -> &Component
+        ensures component { result.now ≡ self.now.component }
+        ensures kept { IsKept self.now.component }
+    {
+        &self.component
+    }
+
+    /// The held state behind the last settling, or the first one.
+    pub fn held(&self) -> &Held
+        ensures state { result.now ≡ self.now.state }
+        ensures fits { IsOf self.now.component self.now.state }
+    {
+        &self.held
+    }
+
+    /// The plan.
+    pub fn plan(&self) -> &Plan
+        ensures plan { result.now ≡ self.now.graph.plan }
+        ensures laid_out { self.now.graph.plan ≡ plan_of self.now.component (state_of self.now.state.held) }
+    {
+        self.graph.plan()
+    }
+
+    /// The journal.
+    pub fn journal(&self) -> &Journal
+        ensures { result.now.phases ≡ self.now.journal }
+    {
+        &self.journal
+    }
+
+    /// The journal alone.
+    pub fn into_journal(self) -> Journal
+        ensures { result.phases ≡ self.journal }
+    {
+        let Still { journal, .. } = self;
+        journal
+    }
+
+    /// How far the graph is.
+    pub fn stage(&self) -> Stage
+        ensures { result ≡ self.now.stage }
+    {
+        self.stage
+    }
+
+    /// The count of ticks: of new values that rows have taken.
+    pub fn ticks(&self) -> u64
+        ensures { result ≡ ticks_of self.now.graph }
+    {
+        self.graph.ticks()
+    }
+
+    /// The value of a row. `None` exactly where there is no such row.
+    pub fn value(&self, row: u32) -> Option<Code>
+        ensures { result ≡ option_map (λ kept. unpacked kept.code) (slice_get self.now.graph.rows row) }
+    {
+        self.graph.value(row)
+    }
+
+    /// The version of a row's value: the count of ticks when it came. `None` exactly where there is no such row.
+    pub fn version(&self, row: u32) -> Option<u64>
+        ensures { result ≡ option_map (λ kept. kept.version) (slice_get self.now.graph.rows row) }
+    {
+        Some(self.graph.row(row)?.version)
+    }
+
+    /// What is known of a row's value. `None` exactly where there is no such row.
+    pub fn colour(&self, row: u32) -> Option<Colour>
+        ensures { result ≡ option_map (λ kept. kept.colour) (slice_get self.now.graph.rows row) }
+    {
+        Some(self.graph.row(row)?.colour)
+    }
+
+    /// What the last run of a row read, and why it ran. `None` exactly where there is no such row.
+    pub fn body(&self, row: u32) -> Option<&Body>
+        ensures { option_copied result ≡ option_map (λ kept. kept.body) (slice_get self.now.graph.rows row) }
+    {
+        Some(&self.graph.row(row)?.body)
+    }
+
+    /// What the id stands for, with the key of a store row or with none.
+    pub fn target(&self, id: u32, key: Option<Code>) -> Target
+        requires { self.now.stage ≢ Stage.Ended }
+        ensures { target_of result ≡ (opened_in self.now).target id key }
+    {
+        match self.names.row(NodePlace::new(id, key)) {
+            Some(row) => Target::Row(row),
+            None => Target::NoRow,
+        }
+    }
+}
+
+impl Still {
+    ghost use Rattle.still_graph.specs.Stands.{still_of, IsStill};
+    ghost use Rattle.still_graph.specs.declared.still.Stage.TheVariants.{Made};
+
+    /// The graph of these parts.
+    fn of(component: Component, begun: Begun) -> Still
+        requires { IsStill (still_of component begun.held begun.names begun.graph begun.journal.phases Made) begun.journal.spare }
+        ensures { result ≡ still_of component begun.held begun.names begun.graph begun.journal.phases Made }
+    {
+        let Begun {
+            held,
+            names,
+            graph,
+            journal,
+        } = begun;
+        Still {
+            component,
+            held,
+            names,
+            graph,
+            journal,
+            stage: Stage::Made,
+        }
+    }
+}
