@@ -1,5 +1,6 @@
 -- A run goes on by a phase.
-use Rattle.std.proofs.Common.{◌≡◌, ℕ, suc, ◌+◌, ◌<◌, Bool, true, false, cond, List, [], ◌∷◌, ◌++◌, length, map, take, sym, ap, subst, ◌∙◌, arith, append_assoc, refl}
+use Rattle.std.proofs.Common.{◌≡◌, ℕ, suc, ◌+◌, ◌<◌, Bool, true, false, cond, List, [], ◌∷◌, ◌++◌, length, map, take, drop, sym, ap, subst, ◌∙◌, arith, append_assoc, refl}
+use Rattle.std.proofs.Math.Seq.{drop-append_seam}
 use Rattle.std.proofs.lemmas.List.{append-nil, length-map, take_more, length-take-le}
 use Rattle.component_items.specs.declared.component.Component.{Component}
 use Rattle.script_items.specs.declared.operation.ScriptOp.{ScriptOp}
@@ -46,9 +47,17 @@ script_last ps p script before l e ops =
     ∙ (λ i. e i ++ (ops ∙ lanes_behind script before) i ∷ [])
     ∙ sym (take_more script before [] l)
 
+-- the answers behind those that stood before are those that came
+pub what_came : (old new came : List Answer) (first : ℕ) (behind : List Answer) → behind ≡ drop first new → first ≡ length old → new ≡ old ++ came → behind ≡ came
+what_came old new came first behind is long grown = is ∙ ap (λ (k : ℕ). drop k new) long ∙ ap (drop (length old)) grown ∙ drop-append_seam old came
+
 -- the lines of a phase, where they are asked for
 abbrev pub lines_if : Bool → List (List ℕ) → ℕ → Phase → List ℕ
 lines_if asked texts n p = cond asked (answer_lines texts n 1 p.lanes ++ journal_lines texts p.opened.plan.owners n p.entries) []
+
+-- those of a component are those of the same one
+pub same_lines : (asked : Bool) (x y : Component) (n : ℕ) (p : Phase) (old new : List ℕ) → new ≡ old ++ lines_if asked x.texts n p → x ≡ y → new ≡ old ++ lines_if asked y.texts n p
+same_lines asked x y n p old new is same = is ∙ ap (λ (c : Component). old ++ lines_if asked c.texts n p) same
 
 report_more : (asked : Bool) (component : Component) (ps : List Phase) (p : Phase) (n : ℕ) (old new : List ℕ) → n ≡ 1 + length ps → old ≡ report_if asked component ps → new ≡ old ++ lines_if asked component.texts n p → new ≡ report_if asked component (ps ++ p ∷ [])
 report_more true component ps p n old new k was is =

@@ -109,8 +109,9 @@ op_in : (r : Option (List ScriptOp)) (before : ℕ) → option_and_then (λ ops.
 op_in None before = refl
 op_in (Some ops) before = ap (numbered ops) (add-one before)
 
-pub op_of_first : (script : List (List (List ScriptOp))) (phase before : ℕ) → op_at script phase 1 (before + 1) ≡ slice_get (first_ops script phase) before
-op_of_first script phase before = op_in (option_and_then (λ lanes. numbered lanes 1) (numbered script phase)) before
+-- what is found at the number is the operation at its place
+pub op_found : (script : List (List (List ScriptOp))) (phase before : ℕ) (r : Option ScriptOp) → r ≡ op_at script phase 1 (before + 1) → slice_get (first_ops script phase) before ≡ r
+op_found script phase before r is = sym (op_in (option_and_then (λ lanes. numbered lanes 1) (numbered script phase)) before) ∙ sym is
 
 pub none_done : (phase : ℕ) (x : StillState) (answers : List Answer) → HasDone phase [] x x answers answers
 none_done phase x answers = record { same = same_self x; done = λ past at. ([], at, refl, sym (append-nil answers)) }

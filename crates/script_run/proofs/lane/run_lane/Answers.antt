@@ -1,4 +1,4 @@
-use Rattle.std.proofs.Common.{◌≡◌, ◌≤◌, length, slice_get, Some, None, sym, ap, subst, ◌∙◌, arith}
+use Rattle.std.proofs.Common.{◌≡◌, ◌≤◌, length, slice_get, Some, None, sym, ap, subst, arith}
 use Rattle.component_items.specs.declared.component.Component.{Component}
 use Rattle.script_items.specs.KeptFor.{NamesMembers}
 use Rattle.script_items.specs.Members.{members_of}
@@ -6,7 +6,7 @@ use Rattle.script_run.specs.Lanes.{first_ops}
 use Rattle.still_graph.specs.Still.{StillState}
 use Rattle.script_run.specs.Today.{SetsOrGets}
 use Rattle.script_run.proofs.Lists.{all_at}
-use Rattle.script_run.proofs.Steps.{stays_open, op_of_first, none_done, one_more_done, all_done, none_at}
+use Rattle.script_run.proofs.Steps.{stays_open, op_found, none_done, one_more_done, all_done, none_at}
 use Rattle.script_run.proofs.lane.run_lane.Goals as goal
 
 pub loop-before-init : goal.loop-before-init
@@ -15,7 +15,7 @@ loop-before-init g c = none_done c.args.phase c.args.still.now c.args.answers.no
 pub returns-in-None : goal.returns-in-None
 returns-in-None g c =
     let ops = first_ops c.args.script.now c.args.phase in
-    let none : slice_get ops c.loop-before.before ≡ None = sym (op_of_first c.args.script.now c.args.phase c.loop-before.before) ∙ sym c.in-None.ensures in
+    let none : slice_get ops c.loop-before.before ≡ None = op_found c.args.script.now c.args.phase c.loop-before.before None c.in-None.ensures in
     all_done c.args.phase ops c.loop-before.before c.args.still.now c.loop-before.still c.args.answers.now c.loop-before.answers c.loop-before.invariant (none_at ops c.loop-before.before none)
 
 pub run_op-requires-clause-open : goal.run_op-requires-clause-open
@@ -24,20 +24,20 @@ run_op-requires-clause-open g c κs within = stays_open c.args.still.now c.loop-
 pub run_op-requires-clause-named : goal.run_op-requires-clause-named
 run_op-requires-clause-named g c κs within =
     let ops = first_ops c.args.script.now c.args.phase in
-    let at : slice_get ops c.loop-before.before ≡ Some c.in-Some.op.now = sym (op_of_first c.args.script.now c.args.phase c.loop-before.before) ∙ sym c.in-Some.ensures in
+    let at : slice_get ops c.loop-before.before ≡ Some c.in-Some.op.now = op_found c.args.script.now c.args.phase c.loop-before.before (Some c.in-Some.op.now) c.in-Some.ensures in
     let same : c.loop-before.still.component ≡ c.args.still.now.component = ap (λ (x : StillState). x.component) c.loop-before.invariant.same.rest in
     subst (λ (component : Component). NamesMembers (members_of component.items) c.in-Some.op.now) (sym same) (all_at (NamesMembers (members_of c.args.still.now.component.items)) ops c.loop-before.before c.in-Some.op.now c.requires.named at)
 
 pub run_op-requires-clause-today : goal.run_op-requires-clause-today
 run_op-requires-clause-today g c κs within =
     let ops = first_ops c.args.script.now c.args.phase in
-    let at : slice_get ops c.loop-before.before ≡ Some c.in-Some.op.now = sym (op_of_first c.args.script.now c.args.phase c.loop-before.before) ∙ sym c.in-Some.ensures in
+    let at : slice_get ops c.loop-before.before ≡ Some c.in-Some.op.now = op_found c.args.script.now c.args.phase c.loop-before.before (Some c.in-Some.op.now) c.in-Some.ensures in
     all_at SetsOrGets ops c.loop-before.before c.in-Some.op.now c.requires.today.each at
 
 pub loop-before-preserved : goal.loop-before-preserved
 loop-before-preserved g c =
     let ops = first_ops c.args.script.now c.args.phase in
-    let at : slice_get ops c.loop-before.before ≡ Some c.in-Some.op.now = sym (op_of_first c.args.script.now c.args.phase c.loop-before.before) ∙ sym c.in-Some.ensures in
+    let at : slice_get ops c.loop-before.before ≡ Some c.in-Some.op.now = op_found c.args.script.now c.args.phase c.loop-before.before (Some c.in-Some.op.now) c.in-Some.ensures in
     let made = c.in_ok-run_op-in-Some.ensures in
     one_more_done c.args.phase ops c.loop-before.before c.in-Some.op.now made.0 c.args.still.now c.loop-before.still c.run_op.new.still c.args.answers.now c.loop-before.answers c.run_op.new.answers c.loop-before.invariant at made.1 made.2 made.3
 

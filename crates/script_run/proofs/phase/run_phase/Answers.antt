@@ -1,6 +1,5 @@
-use Rattle.std.proofs.Common.{◌≡◌, ℕ, suc, ◌+◌, ◌++◌, List, [], length, drop, length-append, sym, ap, subst, ◌∙◌, arith}
+use Rattle.std.proofs.Common.{◌≡◌, suc, ◌+◌, ◌++◌, List, [], length, length-append, sym, ap, subst, ◌∙◌, arith}
 use Rattle.std.specs.List.{All}
-use Rattle.std.proofs.Math.Seq.{drop-append_seam}
 use Rattle.component_items.specs.declared.component.Component.{Component}
 use Rattle.script_items.specs.declared.operation.ScriptOp.{ScriptOp}
 use Rattle.script_items.specs.KeptFor.{NamesMembers}
@@ -12,7 +11,7 @@ use Rattle.script_run.specs.declared.run.Ran.{Ran}
 use Rattle.script_run.specs.Today.{LanesRun}
 use Rattle.script_run.proofs.Asked.{lanes_behind}
 use Rattle.script_run.proofs.Made.{run_held, run_owners, past_fits}
-use Rattle.script_run.proofs.Runs.{as_many, lines_if, runs_on}
+use Rattle.script_run.proofs.Runs.{as_many, lines_if, same_lines, what_came, runs_on}
 use Rattle.script_run.proofs.Steps.{not_open}
 use Rattle.script_run.proofs.phase.run_phase.Goals as goal
 
@@ -63,7 +62,8 @@ returns-clause-goes_on g c =
     let many : length past ≡ c.args.before = as_many past script c.args.before c.requires.within to.script_is in
     let same : c.make_phase.new.still.component ≡ component = c.in_ok-make_phase.ensures.component in
     let more : List Answer = answers_of_lanes (c.args.before + 1) 1 p.lanes in
-    let behind : c.answers_behind-answers.result.now ≡ more = c.answers_behind-answers.ensures ∙ ap (λ (k : ℕ). drop k c.make_phase.new.answers) c.len-first.ensures ∙ ap (drop (length old.answers)) made.2 ∙ drop-append_seam old.answers more in
+    let behind : c.answers_behind-answers.result.now ≡ more = what_came old.answers c.make_phase.new.answers more c.len-first.result c.answers_behind-answers.result.now c.answers_behind-answers.ensures c.len-first.ensures made.2 in
     let here : c.args.before + 1 ≡ suc (length past) = omega arith in
-    let lines = c.in_ok-put_lines.ensures past p made.1.ended here behind ∙ ap (λ (x : Component). old.report.items ++ lines_if c.args.asked x.texts (c.args.before + 1) p) same in
+    let lines : new.report.items ≡ old.report.items ++ lines_if c.args.asked component.texts (c.args.before + 1) p =
+    same_lines c.args.asked c.make_phase.new.still.component component (c.args.before + 1) p old.report.items new.report.items (c.in_ok-put_lines.ensures past p made.1.ended here behind) same in
     runs_on component script c.args.asked c.args.before old new c.make_phase.new.still p c.requires.within c.requires.so_far made.1 same c.in_ok-ran.ensures.settles made.2 lines c.in_ok-ran.ensures.pending
