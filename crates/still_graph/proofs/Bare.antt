@@ -1,12 +1,10 @@
 -- Two states that differ in values of signals alone have one layout.
-use Rattle.std.proofs.Common.{◌≡◌, ℕ, suc, ◌+◌, if◌then◌else◌, not, Bool, true, false, List, [], ◌∷◌, ◌++◌, map, refl, sym, ap, subst, ◌∙◌}
+use Rattle.std.proofs.Common.{◌≡◌, ℕ, if◌then◌else◌, not, Bool, true, false, List, [], ◌∷◌, ◌++◌, map, refl, sym, ap, subst, ◌∙◌}
 use Rattle.std.specs.List.{flat_map, filter}
 use Rattle.std.proofs.lemmas.List.{map-append}
 use Rattle.values.specs.declared.code.Code.{Code}
 use Rattle.values.specs.declared.code.Code.TheVariants.{Empty}
 use Rattle.values.specs.declared.plan.Kind.TheVariants as kind
-use Rattle.values.specs.declared.plan.PlanNode.{PlanNode}
-use Rattle.values.specs.declared.plan.Plan.{Plan}
 use Rattle.store_fields.specs.declared.row.Row.{Row}
 use Rattle.component_items.specs.declared.component.Component.{Component}
 use Rattle.component_items.specs.declared.component.Item.{Item}
@@ -16,7 +14,7 @@ use Rattle.component_items.specs.declared.component.Item.TheViews.{roll-Item}
 use Rattle.component_items.specs.declared.component.Item.TheFolds.{fold-roll-Item, map-Item, ind-Item}
 use Rattle.plain_evaluation.specs.Keyed.{is_keyed}
 use Rattle.plain_evaluation.specs.Place.{Place}
-use Rattle.plain_evaluation.specs.Written.{State, Scene, Says, given, loaded, derived, Written, place_of, in_row, in_area, write_attr, write_fields, write_all, write_step, write_item, write_items, pairs_among, written_in, at_top}
+use Rattle.plain_evaluation.specs.Written.{State, Scene, Says, given, loaded, derived, Written, place_of, in_row, in_area, write_attr, write_all, write_step, write_item, write_items, pairs_among, written_in, at_top}
 use Rattle.plan_meaning.specs.Layout.{is_computed, rows_of, places_of, node_of, nodes_of_text, plan_of}
 use Rattle.plan_meaning.specs.Owners.{plan_owners}
 

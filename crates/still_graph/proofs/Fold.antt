@@ -1,11 +1,9 @@
 -- Folding the rows' values into held state, row by row.
-use Rattle.std.proofs.Common.{◌≡◌, ◌≢◌, ◌⊎◌, ℕ, zero, suc, ◌+◌, ◌<◌, ◌&&◌, if◌then◌else◌, Bool, true, false, List, [], ◌∷◌, length, set, get_or, Option, Some, None, inl, inr, slice_get, refl, sym, ap, subst, ◌∙◌, arith}
-use Rattle.std.specs.Prelude.{nat_lt, IsSome, slice_index_or, slice_set}
+use Rattle.std.proofs.Common.{◌≡◌, ◌≢◌, ◌⊎◌, ℕ, zero, suc, ◌+◌, ◌<◌, ◌&&◌, if◌then◌else◌, Bool, true, false, List, [], ◌∷◌, length, Option, Some, None, inl, inr, slice_get, refl, sym, ap, subst, ◌∙◌, arith}
+use Rattle.std.specs.Prelude.{nat_lt, IsSome, slice_index_or}
 use Rattle.std.proofs.lemmas.List.{length-set, get_or-set_other, get_or-set_same}
 use Rattle.std.proofs.lemmas.Bool.Decides.{nat_tests}
 use Rattle.values.specs.declared.code.Code.{Code}
-use Rattle.values.specs.declared.plan.Plan.{Plan}
-use Rattle.component_items.specs.declared.component.Component.{Component}
 use Rattle.sources.specs.Rows.{value_in}
 use Rattle.plain_evaluation.specs.Changed.{signal_in, signal_of, with_code}
 use Rattle.plain_evaluation.specs.Held.{Holding, nothing, value, stored, arrived, Held, holding_of, rows_in, arrived_in, rows_held, arrived_held, value_held}
@@ -13,7 +11,7 @@ use Rattle.plain_evaluation.specs.Place.{Place, outside, position_of}
 use Rattle.plain_evaluation.specs.Written.{State, state_of}
 use Rattle.plan_meaning.specs.Carried.{AreApart}
 use Rattle.plan_meaning.proofs.Rows.{row_got}
-use Rattle.held_state.specs.State.{HeldState, with_held, IsOf}
+use Rattle.held_state.specs.State.{HeldState, with_held}
 use Rattle.held_state.proofs.OfComponent.{code_is_of}
 use Rattle.still_graph.specs.Folding.{is_signal_row, SignalsHold, code_folded, holding_folded, IsFolded}
 use Rattle.phase_graph.specs.Graph.{GraphState}

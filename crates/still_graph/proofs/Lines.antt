@@ -1,7 +1,7 @@
 -- The lines of a text where no store has rows: they stand in no row, a signal has its value, and no line is of a field.
-use Rattle.std.proofs.Common.{◌≡◌, ℕ, zero, suc, ◌+◌, ◌||◌, if◌then◌else◌, Bool, true, false, List, [], ◌∷◌, ◌++◌, map, length, slice_index_or, Some, None, Option, refl, sym, ap, subst, ◌∙◌, append_assoc, arith, length-append}
+use Rattle.std.proofs.Common.{◌≡◌, ℕ, suc, ◌+◌, ◌||◌, if◌then◌else◌, Bool, true, false, List, [], ◌∷◌, ◌++◌, map, length, slice_index_or, None, refl, sym, ap, subst, ◌∙◌, append_assoc, arith, length-append}
 use Rattle.std.specs.Prelude.{IsSome}
-use Rattle.std.specs.List.{flat_map, concat, list_any, range_with_len}
+use Rattle.std.specs.List.{flat_map, concat, range_with_len}
 use Rattle.values.specs.declared.code.Code.{Code}
 use Rattle.values.specs.declared.expr.Expr.{Expr}
 use Rattle.values.specs.declared.plan.Kind.{Kind}
@@ -19,10 +19,10 @@ use Rattle.component_items.specs.declared.component.Item.TheFolds.{fold-roll-Ite
 use Rattle.component_items.specs.Ids.{attr_ids, ids_step, item_ids, ids_in}
 use Rattle.component_items.specs.Kept.{IsKept}
 use Rattle.plain_evaluation.specs.Changed.{signal_in, signal_of}
-use Rattle.plain_evaluation.specs.Held.{Holding, nothing, Held, holding_of, first_attr, first_step, item_first, first_held}
+use Rattle.plain_evaluation.specs.Held.{Holding, nothing, Held, first_attr, first_step, item_first, first_held}
 use Rattle.plain_evaluation.specs.Place.{Place}
 use Rattle.plain_evaluation.specs.Sound.{Among}
-use Rattle.plain_evaluation.specs.Written.{State, RowAround, Scene, Says, given, loaded, derived, Written, place_of, in_row, in_area, write_attr, write_fields, write_all, write_step, write_item, write_items, pairs_among, written_in, at_top}
+use Rattle.plain_evaluation.specs.Written.{State, Scene, Says, given, loaded, derived, Written, place_of, in_row, in_area, write_attr, write_fields, write_all, write_step, write_item, write_items, pairs_among, written_in, at_top}
 use Rattle.plain_evaluation.proofs.Begins.{attrs_long, item_begun, items_begun}
 use Rattle.plain_evaluation.proofs.Every.{Every, every-append, every_among}
 use Rattle.still_graph.specs.Loads.{any_of, load_step, item_has_load, has_load}

@@ -1,5 +1,5 @@
 -- From stage to stage.
-use Rattle.std.proofs.Common.{◌≡◌, ◌≢◌, ℕ, ◌+◌, ◌<◌, ◌≤◌, Bool, true, false, List, [], ◌∷◌, ◌++◌, length, Option, Some, None, slice_get, refl, sym, ap, subst, ◌∙◌, arith}
+use Rattle.std.proofs.Common.{◌≡◌, ℕ, ◌+◌, ◌<◌, ◌≤◌, Bool, true, false, List, [], ◌∷◌, ◌++◌, length, Option, Some, slice_get, refl, sym, ap, subst, ◌∙◌, arith}
 use Rattle.std.specs.Prelude.{slice_index_or, if◌then◌else◌}
 use Rattle.values.specs.declared.code.Code.{Code}
 use Rattle.values.specs.declared.plan.Kind.TheVariants as kind
@@ -15,7 +15,7 @@ use Rattle.plain_evaluation.specs.Place.{Place, place_at, position_of}
 use Rattle.plain_evaluation.specs.Scratch.{pending}
 use Rattle.plain_evaluation.specs.Written.{state_of, written}
 use Rattle.plain_evaluation.proofs.Fitting.{rows_of_held}
-use Rattle.plan_meaning.specs.Layout.{places_of, plan_of}
+use Rattle.plan_meaning.specs.Layout.{places_of}
 use Rattle.plan_meaning.specs.Told.{owner_of_id}
 use Rattle.plan_meaning.proofs.Owners.{lawful}
 use Rattle.run_items.specs.Journal.{PassCounts, JournalPhase}
@@ -29,7 +29,7 @@ use Rattle.phase_graph.specs.Way.{IsOnWay, OpensWith}
 use Rattle.still_graph.specs.Loads.{has_load}
 use Rattle.still_graph.specs.Settling.{Settles}
 use Rattle.still_graph.specs.Still.{StillState, opened_in, start_in, ended, IsSettledAfter, IsOpenAt}
-use Rattle.still_graph.specs.Stands.{IsRunning, IsMade, IsAtRest, StandsAt, IsStill}
+use Rattle.still_graph.specs.Stands.{IsRunning, IsAtRest, StandsAt, IsStill}
 use Rattle.still_graph.specs.declared.still.Stage.{Stage}
 use Rattle.still_graph.specs.declared.still.Stage.TheVariants.{Made, Settled, Open, Ended}
 use Rattle.still_graph.proofs.Owners.{owner_live}

@@ -1,5 +1,5 @@
 -- What a phase that ended adds to those before it.
-use Rattle.std.proofs.Common.{◌≡◌, ◌≢◌, ℕ, List, [], ◌∷◌, ◌++◌, map, Option, Some, None, slice_get, refl, sym, ap, subst, ◌∙◌}
+use Rattle.std.proofs.Common.{◌≡◌, ◌≢◌, ℕ, List, [], ◌∷◌, ◌++◌, Option, Some, None, slice_get, refl, sym, ap, subst, ◌∙◌}
 use Rattle.std.specs.Option.{option_and_then, option_or}
 use Rattle.std.proofs.lemmas.List.{map-append}
 use Rattle.values.specs.declared.code.Code.{Code}
@@ -8,7 +8,7 @@ use Rattle.values.specs.declared.plan.PlanNode.{PlanNode}
 use Rattle.values.specs.declared.plan.Noted.{Noted}
 use Rattle.values.specs.Packing.{unpacked}
 use Rattle.sources.specs.declared.opening.Opened as rows
-use Rattle.plain_evaluation.specs.Place.{Place, position_of}
+use Rattle.plain_evaluation.specs.Place.{Place}
 use Rattle.plan_meaning.specs.Carried.{AreApart}
 use Rattle.run_items.specs.Journal.{JournalPhase}
 use Rattle.run_meaning.specs.Entries.{last_ran}

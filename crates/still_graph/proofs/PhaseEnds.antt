@@ -1,10 +1,9 @@
 -- The settling of a phase that has ended.
-use Rattle.std.proofs.Common.{◌≡◌, ◌≢◌, ℕ, ◌+◌, ◌<◌, ◌≤◌, Bool, true, false, List, [], ◌∷◌, ◌++◌, length, Option, Some, None, slice_get, refl, sym, ap, subst, ◌∙◌, arith}
-use Rattle.std.specs.Prelude.{unwrap_or, IsSome, slice_index_or}
+use Rattle.std.proofs.Common.{◌≡◌, ℕ, ◌+◌, ◌≤◌, Bool, true, false, List, [], ◌∷◌, ◌++◌, length, Option, Some, slice_get, refl, sym, ap, subst, ◌∙◌}
+use Rattle.std.specs.Prelude.{unwrap_or, slice_index_or}
 use Rattle.std.specs.Option.{option_map_or}
 use Rattle.values.specs.declared.code.Code.{Code}
 use Rattle.values.specs.declared.code.Code.TheVariants.{Empty}
-use Rattle.values.specs.declared.plan.Kind.{Kind}
 use Rattle.values.specs.declared.plan.Kind.TheVariants as kind
 use Rattle.values.specs.declared.plan.Noted.{Noted}
 use Rattle.values.specs.declared.plan.Plan.{Plan}
@@ -13,9 +12,8 @@ use Rattle.values.specs.Packing.{unpacked}
 use Rattle.values.specs.PlanValues.{is_derived, plan_value}
 use Rattle.sources.specs.declared.opening.Opened as rows
 use Rattle.sources.specs.Rows.{value_in}
-use Rattle.plain_evaluation.specs.Changed.{signal_in}
 use Rattle.plain_evaluation.specs.Fits.{RowsFit}
-use Rattle.plain_evaluation.specs.Held.{Holding, value_in as value_held_in, Held, holding_of, value_held, rows_held, arrived_held, is_live}
+use Rattle.plain_evaluation.specs.Held.{value_in as value_held_in, Held, holding_of, value_held, rows_held, arrived_held, is_live}
 use Rattle.plain_evaluation.specs.Place.{Place}
 use Rattle.plain_evaluation.specs.Scratch.{scratch_in}
 use Rattle.plain_evaluation.specs.Written.{State, state_of, written, written_in}
@@ -32,7 +30,6 @@ use Rattle.run_meaning.specs.Opened.{Opened}
 use Rattle.run_meaning.specs.Phase.{Phase}
 use Rattle.run_meaning.specs.Run.{after}
 use Rattle.run_meaning.specs.Words.{In}
-use Rattle.run_history.specs.Going.{Going, opened_at, latest_code}
 use Rattle.still_graph.specs.Folding.{is_signal, is_signal_row, holding_folded, IsFolded}
 use Rattle.phase_graph.specs.Graph.{GraphState}
 use Rattle.still_graph.specs.Loads.{has_load}

@@ -1,6 +1,6 @@
 -- The rows of a component in a state where no store has rows.
-use Rattle.std.proofs.Common.{◌≡◌, ◌≢◌, ℕ, Bool, true, false, List, [], ◌∷◌, ◌++◌, map, length, Option, Some, None, slice_get, refl, sym, ap, subst, ◌∙◌, arith}
-use Rattle.std.specs.Prelude.{IsSome, ◌&&◌}
+use Rattle.std.proofs.Common.{◌≡◌, ◌≢◌, ℕ, Bool, true, false, List, [], ◌∷◌, ◌++◌, Option, Some, None, slice_get, refl, sym, ap, subst, ◌∙◌}
+use Rattle.std.specs.Prelude.{IsSome}
 use Rattle.std.specs.List.{flat_map}
 use Rattle.std.specs.Option.{option_map_or}
 use Rattle.values.specs.declared.code.Code.{Code}
@@ -16,15 +16,14 @@ use Rattle.plain_evaluation.specs.Held.{Held, first_held}
 use Rattle.plain_evaluation.specs.Keyed.{is_keyed}
 use Rattle.plain_evaluation.specs.Place.{Place, place_at, outside}
 use Rattle.plain_evaluation.specs.Scratch.{Values, seen_from, value_said, scratch_in, pending_step, pending_in}
-use Rattle.plain_evaluation.specs.Sound.{Among}
 use Rattle.plain_evaluation.specs.Written.{State, RowAround, Says, given, loaded, derived, kind_said, Written, place_of, key_in, written_in}
 use Rattle.plain_evaluation.proofs.Every.{Every}
 use Rattle.plain_evaluation.proofs.Makes.{makes_sense}
 use Rattle.plain_evaluation.proofs.Solves.{solves}
 use Rattle.plan_meaning.specs.Layout.{rows_of, places_of, node_of, plan_of}
-use Rattle.plan_meaning.proofs.Rows.{row_among, every_of, map_at, at_map}
+use Rattle.plan_meaning.proofs.Rows.{row_among, every_of, map_at}
 use Rattle.plan_meaning.proofs.Told.{line_of}
-use Rattle.still_graph.specs.Folding.{is_signal, is_signal_row}
+use Rattle.still_graph.specs.Folding.{is_signal}
 use Rattle.still_graph.specs.Loads.{has_load}
 use Rattle.still_graph.proofs.Lines.{SaysPlain, is_loaded, IsPlain, is_plain}
 

@@ -1,5 +1,5 @@
 -- Where signals have the values of held state, and memos those of their expressions, all is plain evaluation.
-use Rattle.std.proofs.Common.{◌≡◌, ◌≢◌, ℕ, zero, suc, Bool, true, false, List, [], ◌∷◌, map, length, Option, Some, None, slice_get, refl, sym, ap, subst, ◌∙◌, arith}
+use Rattle.std.proofs.Common.{◌≡◌, ◌≢◌, ℕ, zero, suc, false, List, [], ◌∷◌, length, Option, Some, None, slice_get, refl, sym, ap, ◌∙◌, arith}
 use Rattle.std.specs.Option.{option_map}
 use Rattle.values.specs.declared.code.Code.{Code}
 use Rattle.values.specs.declared.plan.Kind.{Kind}
@@ -14,11 +14,11 @@ use Rattle.component_items.specs.Kept.{IsKept}
 use Rattle.sources.specs.declared.opening.Opened as rows
 use Rattle.sources.specs.Rows.{code_in, value_in}
 use Rattle.plain_evaluation.specs.Fits.{RowsFit}
-use Rattle.plain_evaluation.specs.Held.{Held, rows_held, value_held}
+use Rattle.plain_evaluation.specs.Held.{Held, rows_held}
 use Rattle.plain_evaluation.specs.Keyed.{is_keyed}
 use Rattle.plain_evaluation.specs.Place.{Place}
 use Rattle.plain_evaluation.specs.Scratch.{scratch_in}
-use Rattle.plain_evaluation.specs.Written.{State, given, loaded, kind_said, Written, place_of, state_of, written_in}
+use Rattle.plain_evaluation.specs.Written.{State, kind_said, Written, place_of, state_of, written_in}
 use Rattle.plan_meaning.specs.Layout.{rows_of, places_of, node_of, plan_of}
 use Rattle.plan_meaning.specs.Settled.{AreSettled}
 use Rattle.plan_meaning.specs.Values.{row_values}

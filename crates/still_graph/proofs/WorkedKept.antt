@@ -6,7 +6,6 @@ use Rattle.values.specs.declared.expr.Expr.TheVariants.{Read, rolls-Read}
 use Rattle.values.specs.declared.expr.Expr.TheFolds.{fold-Expr, fold-roll-Expr}
 use Rattle.values.specs.declared.limits.TheConstants.{MOST_NODES, MOST_OWNERS}
 use Rattle.values.proofs.PlanLemmas.{rows_in-Read}
-use Rattle.component_items.specs.declared.component.Item.{Item}
 use Rattle.component_items.specs.Counts.{item_maximum, item_nodes, nodes_of}
 use Rattle.component_items.specs.Ids.{item_ids, item_owners, ids_in, owners_in}
 use Rattle.component_items.specs.Kept.{IsKept, texts_step, expr_has_texts, item_has_texts, item_stands, standing_at_top, item_sees, items_see, nothing_seen, item_has_shape}

@@ -1,5 +1,5 @@
 -- What is folded is held state after the writes, and nothing else comes of a phase of writes and reads.
-use Rattle.std.proofs.Common.{◌≡◌, ◌≢◌, ℕ, zero, suc, ◌+◌, ◌<◌, ◌&&◌, ◌==◌, if◌then◌else◌, Bool, true, false, List, [], ◌∷◌, ◌++◌, map, length, Option, Some, None, inl, inr, slice_get, refl, sym, ap, subst, ◌∙◌, arith}
+use Rattle.std.proofs.Common.{◌≡◌, ◌≢◌, ℕ, zero, suc, ◌+◌, ◌<◌, ◌&&◌, ◌==◌, if◌then◌else◌, Bool, true, false, List, [], ◌∷◌, map, length, Option, Some, None, inl, inr, slice_get, refl, sym, ap, subst, ◌∙◌, arith}
 use Rattle.std.specs.Prelude.{nat_lt, slice_index_or, unwrap_or, filter_map}
 use Rattle.std.specs.List.{last_or}
 use Rattle.std.specs.Option.{option_map_or}
@@ -12,36 +12,29 @@ use Rattle.values.specs.declared.plan.Kind.TheVariants as kind
 use Rattle.values.specs.declared.plan.Noted.{Noted}
 use Rattle.values.specs.declared.plan.Plan.{Plan}
 use Rattle.values.specs.declared.plan.PlanNode.{PlanNode}
-use Rattle.values.specs.Packing.{unpacked}
 use Rattle.store_fields.specs.Edits.{KeyedRows, with_rows}
-use Rattle.store_fields.specs.declared.row.Row.{Row}
 use Rattle.component_items.specs.declared.component.Component.{Component}
 use Rattle.component_items.specs.Kept.{IsKept}
-use Rattle.sources.specs.declared.opening.Opened as rows
 use Rattle.sources.specs.Rows.{value_in}
-use Rattle.plain_evaluation.specs.Fits.{RowsFit}
-use Rattle.plain_evaluation.specs.Held.{Holding, nothing, value, stored, arrived, Held, holding_of, rows_in, arrived_in, value_held, rows_held, arrived_held, is_live, first_held}
+use Rattle.plain_evaluation.specs.Held.{Holding, nothing, value, stored, arrived, Held, holding_of, rows_in, arrived_in, value_held, rows_held, arrived_held, is_live}
 use Rattle.plain_evaluation.specs.Place.{Place, outside, position_of}
-use Rattle.plain_evaluation.specs.Scratch.{scratch_in}
 use Rattle.plain_evaluation.specs.Written.{state_of, written}
 use Rattle.plan_meaning.specs.Layout.{places_of, plan_of}
 use Rattle.plan_meaning.specs.Told.{owner_of_id}
-use Rattle.plan_meaning.specs.Values.{row_values}
-use Rattle.plan_meaning.proofs.Rows.{row_got, at_map}
+use Rattle.plan_meaning.proofs.Rows.{row_got}
 use Rattle.held_state.specs.State.{HeldState}
 use Rattle.run_meaning.specs.Words.{In}
 use Rattle.run_meaning.specs.Opened.{Opened, at_dead, target_at, row_in, opened_of}
 use Rattle.run_meaning.specs.Lane.{Done}
 use Rattle.run_meaning.specs.Entries.{written_of, last_write, disposed_by, disposed_in}
 use Rattle.run_meaning.specs.Explained.{IsWritten}
-use Rattle.run_meaning.specs.Edits.{after_writes, written_at, row_written, holding_written, holdings_written, held_written, Ordered, held_edited, edit_of, edits_of}
+use Rattle.run_meaning.specs.Edits.{after_writes, row_written, holding_written, holdings_written, held_written, Ordered, held_edited, edit_of, edits_of}
 use Rattle.run_meaning.specs.Phase.{Phase}
 use Rattle.run_meaning.specs.Run.{holding_arrived, holdings_arrived, held_arrived, held_disposed, after}
 use Rattle.still_graph.specs.Folding.{is_signal, is_signal_row, code_folded, holding_folded, IsFolded}
 use Rattle.phase_graph.specs.Graph.{GraphState}
 use Rattle.still_graph.specs.Stands.{IsWriteOrChange}
 use Rattle.still_graph.proofs.Rows.{signal_node, no_field}
-use Rattle.still_graph.proofs.Fold.{same_or_not}
 
 -- ---- lists of holdings
 

@@ -1,5 +1,5 @@
 -- Whether there is a load among items.
-use Rattle.std.specs.Prelude.{ℕ, Bool, true, false, List, []}
+use Rattle.std.specs.Prelude.{Bool, true, false, List}
 use Rattle.std.specs.List.{list_any}
 use Rattle.component_items.specs.declared.component.Item.{Item}
 use Rattle.component_items.specs.declared.component.Item.TheOpen as level

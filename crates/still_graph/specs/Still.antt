@@ -1,5 +1,5 @@
 -- The graph of a component as contracts see it, and what it shows of the phases that were run.
-use Rattle.std.specs.Prelude.{◌≡◌, ◌≢◌, ℕ, false, List, [], ◌∷◌, ◌++◌, slice_get, Some, None, Option}
+use Rattle.std.specs.Prelude.{◌≡◌, ◌≢◌, ℕ, false, List, [], ◌∷◌, ◌++◌, slice_get, Some, None}
 use Rattle.values.specs.declared.plan.Kind.TheVariants as kind
 use Rattle.values.specs.declared.plan.PlanNode.{PlanNode}
 use Rattle.values.specs.Packing.{unpacked}
@@ -16,7 +16,7 @@ use Rattle.run_history.specs.Going.{Start, start_of, Going}
 use Rattle.phase_graph.specs.Graph.{GraphState, ticks_of}
 use Rattle.phase_graph.specs.Way.{IsOnWay}
 use Rattle.still_graph.specs.declared.still.Stage.{Stage}
-use Rattle.still_graph.specs.declared.still.Stage.TheVariants.{Made, Settled, Open, Ended}
+use Rattle.still_graph.specs.declared.still.Stage.TheVariants.{Settled, Open, Ended}
 
 pub record StillState : Type 0 where
   pub component : Component

@@ -13,3 +13,6 @@ pub use journal::Journal;
 pub use loads::has_load;
 pub use settling::{Late, Pending, Settled};
 pub use still::{Stage, Still, Target};
+
+#[cfg(test)]
+mod tests;

@@ -1,4 +1,4 @@
-use Rattle.std.proofs.Common.{◌≡◌, ◌++◌, ◌∷◌, [], ap, ◌∙◌, arith}
+use Rattle.std.proofs.Common.{◌++◌, ◌∷◌, [], ap, ◌∙◌, arith}
 use Rattle.plain_evaluation.specs.Held.{value_held}
 use Rattle.plain_evaluation.specs.Place.{Place}
 use Rattle.still_graph.proofs.Begins.{codes_more}

@@ -1,4 +1,4 @@
-use Rattle.std.proofs.Common.{◌≡◌, true, List, map, length, Some, slice_get, sym, ap, subst, ◌∙◌}
+use Rattle.std.proofs.Common.{true, List, map, length, slice_get, sym, ap, subst, ◌∙◌}
 use Rattle.std.specs.Prelude.{replicate}
 use Rattle.values.specs.declared.code.Code.{Code}
 use Rattle.values.specs.declared.plan.Plan.{Plan}

@@ -1,4 +1,4 @@
-use Rattle.std.proofs.Common.{◌∙◌, ap, refl}
+use Rattle.std.proofs.Common.{◌∙◌, ap}
 use Rattle.std.specs.Prelude.{replicate}
 use Rattle.still_graph.specs.Journal.{no_counts}
 use Rattle.still_graph.specs.Stands.{still_of}
