@@ -20,3 +20,6 @@ pub use lawful::is_lawful;
 pub use moves::{Moved, advance, row_at};
 pub use stack::Stack;
 pub use writes::{keep, record_run};
+
+#[cfg(test)]
+mod tests;
