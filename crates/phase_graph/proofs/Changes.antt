@@ -401,7 +401,6 @@ module _ (s : Start) (rows rows' : List Opened) (readers readers' : Readers) (c 
     dead = (λ owner l. subst (λ (t : List Noted). IsDead s t owner) (sym entries) (dead_more s c.entries.list block owner (way.dead owner l)));
     alive = (λ owner l d. way.alive owner l (dead_same s c.entries.list block owner no_owner (subst (λ (t : List Noted). IsDead s t owner) entries d)));
     noted_edits = (λ pass list at. way.noted_edits pass list at ∙ sym (ap (edits_by pass) entries ∙ edits_more pass c.entries.list block (changes_no_edit pass block are_changes)));
-    homes = way.homes;
   }
 
   pub draws : c'.drawn + unclean_count rows' ≤ c.drawn + derived_of s

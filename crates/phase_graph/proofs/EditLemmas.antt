@@ -122,7 +122,6 @@ module _ (t t' : Table) (pass owner index : ℕ) (asked : Edit) where
         dead = (λ n l. subst (λ (q : List Noted). IsDead (with_plan s t.plan) q n) (sym entries) (dead_more (with_plan s t.plan) t.clock.entries.list block n (way.dead n l)));
         alive = (λ n l d. way.alive n l (dead_same (with_plan s t.plan) t.clock.entries.list block n refl (subst (λ (q : List Noted). IsDead (with_plan s t.plan) q n) entries d)));
         noted_edits = noted;
-        homes = way.homes;
       }
 
       on : IsOnWay (with_plan s t.plan) (at_clock t'.clock) (open_seen t' (edits_with lists pass asked (Ok number)) room)

@@ -61,7 +61,6 @@ module _ (t : Table) (table : IsTable t) (list : Reserve Noted) (empty : list.li
         inl (filter_in (λ m. not (get_or s.live m false)) (range_with_len 0 (length s.live)) owner (range_in 0 (length s.live) owner (omega arith) (omega arith)) (ap not l)));
     alive = (λ owner at d. by owner at d);
     noted_edits = (λ pass edits at. none_noted passes pass edits (ap (λ (q : List (List Edit)). numbered q pass) (sym none) ∙ at));
-    homes = opens.homes;
   }
     where
       old : (n : ℕ) (row : Opened) → slice_get t.rows.items n ≡ Some row → row.version ≤ t.clock.base + t.clock.drawn

@@ -45,9 +45,9 @@ use Rattle.run_history.proofs.Steps.{nothing_goes}
 use Rattle.phase_graph.specs.declared.pumping.Turn.{Turn}
 use Rattle.phase_graph.specs.declared.pumping.Turn.TheVariants as turn
 use Rattle.phase_graph.specs.declared.table.Table.{Table}
-use Rattle.phase_graph.specs.Table.{state_of, open_seen, IsTable, IsKept, HasOwner, MakesCall}
+use Rattle.phase_graph.specs.Table.{state_of, open_seen, IsTable, IsKept, HasOwner, MakesHome}
 use Rattle.phase_graph.specs.Pumping.{IsEffectOf, IsOther, IsDone, IsLeft, TurnedAs, counted}
-use Rattle.phase_graph.specs.Way.{ShowsAs, IsOnWay}
+use Rattle.phase_graph.specs.Way.{ShowsAs, IsOnWay, AreHome}
 use Rattle.phase_graph.proofs.Changes as changes
 use Rattle.phase_graph.proofs.Disposing.{kept_on}
 use Rattle.phase_graph.proofs.Effects.{done_drawn, short_drawn, DrawsMost, done_draws, left_draws}
@@ -56,7 +56,7 @@ use Rattle.phase_graph.proofs.Pumpings.{IsPumping, pumping_none, pumping_on, pum
 use Rattle.phase_graph.proofs.Rows.{effect_yes, effect_no}
 use Rattle.phase_graph.proofs.Running as running
 use Rattle.phase_graph.proofs.Starts.{at_clock, with_plan, plain_is}
-use Rattle.phase_graph.proofs.Steps.{makes}
+use Rattle.phase_graph.proofs.Steps.{makes_home}
 use Rattle.phase_graph.proofs.Stops.{fills, on_filled}
 use Rattle.phase_graph.proofs.Tables.{still_open}
 
@@ -393,7 +393,7 @@ count_same : {A : Type 0} (p q : A → Bool) (xs : List A) → ((n : ℕ) (x : A
 count_same p q [] same = refl
 count_same p q (x ∷ xs) same = sum_by-cons (λ y. cond (p y) 1 0) x xs ∙ (λ i. cond (same zero x refl i) 1 0 + count_same p q xs (λ n y at. same (suc n) y at) i) ∙ sym (sum_by-cons (λ y. cond (q y) 1 0) x xs)
 
-module _ (s : Start) (g : Going) (t : Table) (edits : List (List Edit)) (room : ℕ) (way : IsOnWay s g (open_seen t edits room)) where
+module _ (s : Start) (g : Going) (t : Table) (edits : List (List Edit)) (room : ℕ) (home : AreHome s) (way : IsOnWay s g (open_seen t edits room)) where
   -- an owner of a row that is dead was disposed in the phase
   disposed : (n : ℕ) (node : PlanNode) → slice_get s.plan.nodes n ≡ Some node → slice_get t.live.items node.owner ≡ Some false → In node.owner (disposed_in g.entries)
   disposed n node at d = by (way.dead node.owner d)
@@ -401,7 +401,7 @@ module _ (s : Start) (g : Going) (t : Table) (edits : List (List Edit)) (room : 
       by : IsDead s g.entries node.owner → In node.owner (disposed_in g.entries)
       by (inl i) =
           let r = in_filter (λ m. not (get_or s.live m false)) (range_with_len 0 (length s.live)) node.owner i in
-          absurd (not_both (not (get_or s.live node.owner false)) r.1 (ap not (get_or_from_slice_get s.live node.owner true false (way.homes n node at))))
+          absurd (not_both (not (get_or s.live node.owner false)) r.1 (ap not (get_or_from_slice_get s.live node.owner true false (home.homes n node at))))
       by (inr i) = i
 
   -- the effects whose owner is dead are those whose owner was disposed in the phase
@@ -431,8 +431,8 @@ module _ (s : Start) (g : Going) (t : Table) (edits : List (List Edit)) (room : 
       dirty : (row : Opened) → row.colour ≡ Dirty → is_clean row.colour ≡ true → ⊥
       dirty row d c = not_both (is_clean row.colour) c (ap is_clean d)
 
-pub pump_ends : (t t' : Table) (pass : ℕ) (told : Pumped) → IsTable t → t.clock.in_phase ≡ true → ArePumped t t' (length t'.plan.nodes) told → MakesCall t t' pass (pump told)
-pump_ends t t' pass told table is_open is = makes t t' pass (pump told) (λ s edits room way.
+pub pump_ends : (t t' : Table) (pass : ℕ) (told : Pumped) → IsTable t → t.clock.in_phase ≡ true → ArePumped t t' (length t'.plan.nodes) told → MakesHome t t' pass (pump told)
+pump_ends t t' pass told table is_open is = makes_home t t' pass (pump told) (λ s edits room home way.
     let r = is.way s edits room way in
     let p = r.1 in
     let on = r.2 in (
@@ -446,9 +446,9 @@ pump_ends t t' pass told table is_open is = makes t t' pass (pump told) (λ s ed
           counts = is.counts ∙ all is_effect_node;
           ran = p.runs;
           void = (let v = p.voids in omega arith);
-          gone = is.gone ∙ ap (λ (q : List PlanNode). count_by (is_gone_in t'.live.items) q) (take-length t'.plan.nodes) ∙ gone_of s edits room way;
+          gone = is.gone ∙ ap (λ (q : List PlanNode). count_by (is_gone_in t'.live.items) q) (take-length t'.plan.nodes) ∙ gone_of s edits room home way;
           first = first_of told.first_left is.first;
-          stand = (is.left, is.few_left, (λ n e. stand s edits room on n e.0 e.1 e.2 (is.through n e.0 (let l = at_within t.plan.nodes n e.0 e.1 in let q = ap (λ (x : Plan). length x.nodes) is.kept.plan in omega arith) (ap (λ (x : Plan). slice_get x.nodes n) is.kept.plan ∙ e.1) e.2)));
+          stand = (is.left, is.few_left, (λ n e. stand s edits room home on n e.0 e.1 e.2 (is.through n e.0 (let l = at_within t.plan.nodes n e.0 e.1 in let q = ap (λ (x : Plan). length x.nodes) is.kept.plan in omega arith) (ap (λ (x : Plan). slice_get x.nodes n) is.kept.plan ∙ e.1) e.2)));
         },
       ),
       on,
@@ -457,16 +457,16 @@ pump_ends t t' pass told table is_open is = makes t t' pass (pump told) (λ s ed
     all : (f : PlanNode → Bool) → count_by f (take (length t'.plan.nodes) t'.plan.nodes) ≡ count_by f t.plan.nodes
     all f = ap (λ (q : List PlanNode). count_by f q) (take-length t'.plan.nodes) ∙ ap (λ (q : Plan). count_by f q.nodes) is.kept.plan
 
-    gone_of : (s : Start) (edits : List (List Edit)) (room : ℕ) → IsOnWay (with_plan s t.plan) (at_clock t.clock) (open_seen t edits room) → count_by (is_gone_in t'.live.items) t'.plan.nodes ≡ count_by (is_gone (disposed_in t.clock.entries.list)) t.plan.nodes
-    gone_of s edits room way = (λ i. count_by (is_gone_in (is.live i).items) (is.kept.plan i).nodes) ∙ count_same (is_gone_in t.live.items) (is_gone (disposed_in t.clock.entries.list)) t.plan.nodes (λ n node at.
+    gone_of : (s : Start) (edits : List (List Edit)) (room : ℕ) → AreHome (with_plan s t.plan) → IsOnWay (with_plan s t.plan) (at_clock t.clock) (open_seen t edits room) → count_by (is_gone_in t'.live.items) t'.plan.nodes ≡ count_by (is_gone (disposed_in t.clock.entries.list)) t.plan.nodes
+    gone_of s edits room home way = (λ i. count_by (is_gone_in (is.live i).items) (is.kept.plan i).nodes) ∙ count_same (is_gone_in t.live.items) (is_gone (disposed_in t.clock.entries.list)) t.plan.nodes (λ n node at.
         let o = within_at t.live.items node.owner (let w = table.lawful.owned n node at in let l = table.owners in omega arith) in
-        gone_is (with_plan s t.plan) (at_clock t.clock) t edits room way n node at o.0 o.1)
+        gone_is (with_plan s t.plan) (at_clock t.clock) t edits room home way n node at o.0 o.1)
 
     first_of : (o : Option (ℕ × Left)) → FirstLeft t' o told.left → MatchOption o (told.left ≡ 0) (λ f. (0 < told.left) × ((node : PlanNode) × (slice_get t.plan.nodes f.0 ≡ Some node) × (node.kind ≡ kind.Effect)) × LeftFull f.1 t'.clock.drawn)
     first_of None f = f
     first_of (Some w) f = (f.0, (f.1.node, ap (λ (q : Plan). slice_get q.nodes w.0) (sym is.kept.plan) ∙ f.1.at, f.1.is), f.2)
 
-    stand : (s : Start) (edits : List (List Edit)) (room : ℕ) → IsOnWay (with_plan s t.plan) (at_clock t'.clock) (open_seen t' edits room) → (n : ℕ) (node : PlanNode) → slice_get t.plan.nodes n ≡ Some node → node.kind ≡ kind.Effect → IsThrough t' is.left n node → In n is.left ⊎ StandsNow (with_plan s t.plan) t'.clock.entries.list n
-    stand s edits room on n node at k (inl i) = inl i
-    stand s edits room on n node at k (inr (inl d)) = inr (inl (node, at, disposed (with_plan s t.plan) (at_clock t'.clock) t' edits room on n node at d))
-    stand s edits room on n node at k (inr (inr c)) = inr (inr (stands_clean (with_plan s t.plan) (at_clock t'.clock) t' edits room on is.kept.table (is.kept.in_phase ∙ is_open) is.kept.plan n node at k c))
+    stand : (s : Start) (edits : List (List Edit)) (room : ℕ) → AreHome (with_plan s t.plan) → IsOnWay (with_plan s t.plan) (at_clock t'.clock) (open_seen t' edits room) → (n : ℕ) (node : PlanNode) → slice_get t.plan.nodes n ≡ Some node → node.kind ≡ kind.Effect → IsThrough t' is.left n node → In n is.left ⊎ StandsNow (with_plan s t.plan) t'.clock.entries.list n
+    stand s edits room home on n node at k (inl i) = inl i
+    stand s edits room home on n node at k (inr (inl d)) = inr (inl (node, at, disposed (with_plan s t.plan) (at_clock t'.clock) t' edits room home on n node at d))
+    stand s edits room home on n node at k (inr (inr c)) = inr (inr (stands_clean (with_plan s t.plan) (at_clock t'.clock) t' edits room home on is.kept.table (is.kept.in_phase ∙ is_open) is.kept.plan n node at k c))

@@ -95,7 +95,6 @@ module _ (s : Start) (live : List Bool) (edits : List (List Edit)) (room i : ℕ
     dead = way.dead;
     alive = way.alive;
     noted_edits = way.noted_edits;
-    homes = way.homes;
   }
 
   -- a number is held for the run
@@ -122,7 +121,6 @@ module _ (s : Start) (live : List Bool) (edits : List (List Edit)) (room i : ℕ
       dead = (λ n l. subst (λ (q : List Noted). IsDead s q n) (sym entries) (dead_more s c.entries.list entry n (way.dead n l)));
       alive = (λ n l d. way.alive n l (dead_same s c.entries.list entry n refl (subst (λ (q : List Noted). IsDead s q n) entries d)));
       noted_edits = (λ pass list l. way.noted_edits pass list l ∙ sym (ap (edits_by pass) entries ∙ edits_more pass c.entries.list entry refl));
-      homes = way.homes;
     }
 
   -- the entry says that the effect ran, and its row is put
@@ -152,7 +150,6 @@ module _ (s : Start) (live : List Bool) (edits : List (List Edit)) (room i : ℕ
     dead = (λ n l. subst (λ (q : List Noted). IsDead s q n) (sym ran) (filling.dead_still s front later k i code n (subst (λ (q : List Noted). IsDead s q n) held (way.dead n l))));
     alive = (λ n l d. way.alive n l (subst (λ (q : List Noted). IsDead s q n) (sym held) (filling.same_dead s front later k i code n (subst (λ (q : List Noted). IsDead s q n) ran d))));
     noted_edits = (λ pass list l. way.noted_edits pass list l ∙ sym (over (edits_by pass) (filling.same_edits s front later k i code pass)));
-    homes = way.homes;
   }
     where
       over : {X : Type 0} (f : List Noted → X) → f (front ++ note k (fact.Ran i code) ∷ later) ≡ f (front ++ note k (fact.Void i) ∷ later) → f c'.entries.list ≡ f c.entries.list

@@ -51,7 +51,6 @@ module _ (s : Start) (old new : Table) (number : ℕ) (edits : List (List Edit))
     dead = way.dead;
     alive = way.alive;
     noted_edits = way.noted_edits;
-    homes = way.homes;
   }
 
   pub on_filled : IsOnWay s (at_clock old.clock) (open_seen old edits room) → IsOnWay s (at_clock new.clock) (open_seen new edits room)

@@ -91,7 +91,6 @@ module _ (s : Start) (t t' : Table) (owner : ℕ) (edits : List (List Edit)) (ro
     dead = (λ n l. subst (λ (q : List Noted). IsDead (with_plan s t.plan) q n) (sym turned.noted.entries) (now_dead n (which t.live.items owner true false n false turned.was (ap (λ (q : List Bool). slice_get q n) (sym turned.live) ∙ l))));
     alive = (λ n l d. still_alive n (which t.live.items owner true false n true turned.was (ap (λ (q : List Bool). slice_get q n) (sym turned.live) ∙ l)) (subst (λ (q : List Noted). IsDead (with_plan s t.plan) q n) turned.noted.entries d));
     noted_edits = (λ pass list l. way.noted_edits pass list l ∙ sym (ap (edits_by pass) turned.noted.entries ∙ edits_more pass t.clock.entries.list block refl));
-    homes = way.homes;
   }
     where
       now_dead : (n : ℕ) → ((n ≡ owner) × (false ≡ false)) ⊎ ((n ≡ owner → ⊥) × (slice_get t.live.items n ≡ Some false)) → IsDead (with_plan s t.plan) (t.clock.entries.list ++ block) n

@@ -149,5 +149,4 @@ module _ (s : Start) (rows rows' : List Opened) (c c' : Clock) (live : List Bool
     dead = (λ owner l. subst (λ (t : List Noted). IsDead s t owner) (sym entries) (dead_more s c.entries.list block owner (way.dead owner l)));
     alive = (λ owner l d. way.alive owner l (dead_same s c.entries.list block owner refl (subst (λ (t : List Noted). IsDead s t owner) entries d)));
     noted_edits = (λ pass list l. way.noted_edits pass list l ∙ sym (ap (edits_by pass) entries ∙ edits_more pass c.entries.list block refl));
-    homes = way.homes;
   }

@@ -40,7 +40,9 @@ pub record IsOnWay (s : Start) (g : Going) (x : GraphState) : Type 0 where
   pub dead : (owner : ℕ) → slice_get x.live owner ≡ Some false → IsDead s g.entries owner
   pub alive : (owner : ℕ) → slice_get x.live owner ≡ Some true → ¬ IsDead s g.entries owner
   pub noted_edits : (pass : ℕ) (edits : List Edit) → numbered x.edits pass ≡ Some edits → length edits ≡ edits_by pass g.entries
-  -- no row is of an owner that was dead when the phase opened
+
+-- no row of the plan is of an owner that was dead when the phase opened
+pub record AreHome (s : Start) : Type 0 where
   pub homes : (n : ℕ) (node : PlanNode) → slice_get s.plan.nodes n ≡ Some node → slice_get s.live node.owner ≡ Some true
 
 -- ---- when a phase may open so
@@ -58,8 +60,6 @@ pub record OpensWith (s : Start) (x : GraphState) : Type 0 where
   pub plan : x.plan ≡ s.plan
   pub live : x.live ≡ s.live
   pub each : (n : ℕ) (node : PlanNode) (row : rows.Opened) → slice_get s.plan.nodes n ≡ Some node → slice_get x.rows n ≡ Some row → OpensAs node.kind s x.rows n row
-  -- no row is of an owner that is dead
-  pub homes : (n : ℕ) (node : PlanNode) → slice_get s.plan.nodes n ≡ Some node → slice_get s.live node.owner ≡ Some true
 
 -- the lists of edits of so many passes, all empty
 abbrev pub no_edits : ℕ → List (List Edit)

@@ -6,7 +6,7 @@ ghost use Rattle.script_items.specs.Script.{numbered};
 ghost use Rattle.run_history.specs.Going.{Start, Going};
 ghost use Rattle.run_history.specs.Calls.{set, get, pump, dispose, edit, Calls};
 ghost use Rattle.phase_graph.specs.Graph.{StaysOpen};
-ghost use Rattle.phase_graph.specs.Way.{IsOnWay};
+ghost use Rattle.phase_graph.specs.Way.{IsOnWay, AreHome};
 
 use crate::edits::edit_in;
 use crate::graph::Graph;
@@ -48,7 +48,7 @@ impl Graph {
         ensures stays { StaysOpen self.old self.new }
         ensures edits { self.new.edits ≡ self.old.edits }
         ensures live { self.new.live ≡ self.old.live }
-        ensures call { (s : Start) (g : Going) (pass : ℕ) → IsOnWay s g self.old → (block : List NotedValue) × (h : Going) × Calls s g block h pass (pump result) × IsOnWay s h self.new }
+        ensures call { (s : Start) (g : Going) (pass : ℕ) → AreHome s → IsOnWay s g self.old → (block : List NotedValue) × (h : Going) × Calls s g block h pass (pump result) × IsOnWay s h self.new }
     {
         self.table.pump()
     }

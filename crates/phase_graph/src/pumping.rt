@@ -3,7 +3,7 @@ ghost use Rattle.std.specs.Prelude.{◌≡◌, ◌≤◌, ◌<◌, ◌+◌, ℕ,
 ghost use Rattle.plain_evaluation.specs.Sound.{is_effect};
 ghost use Rattle.still_effects.specs.Effects.{IsEffect};
 ghost use Rattle.run_history.specs.Calls.{pump};
-ghost use Rattle.phase_graph.specs.Table.{IsTable, IsKept, MakesCall};
+ghost use Rattle.phase_graph.specs.Table.{IsTable, IsKept, MakesHome};
 ghost use Rattle.phase_graph.specs.Pumping.{IsEffectOf, CameTo, TurnedAs, counted};
 
 use crate::table::Table;
@@ -33,7 +33,7 @@ impl Table {
         requires open { self.old.clock.in_phase ≡ true }
         ensures kept { IsKept self.old self.new }
         ensures live { self.new.live ≡ self.old.live }
-        ensures call { (pass : ℕ) → MakesCall self.old self.new pass (pump result) }
+        ensures call { (pass : ℕ) → MakesHome self.old self.new pass (pump result) }
     {
         let mut told = Pumped {
             ran: 0,
