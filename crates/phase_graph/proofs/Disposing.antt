@@ -101,7 +101,7 @@ begins t area table = record {
     none zero e = refl
     none (suc m) e = absurd (omega arith)
 
-kept_on : (t0 t t' : Table) → IsKept t0 t → IsKept t t' → IsKept t0 t'
+pub kept_on : (t0 t t' : Table) → IsKept t0 t → IsKept t t' → IsKept t0 t'
 kept_on t0 t t' a b = record { table = b.table; plan = b.plan ∙ a.plan; base = b.base ∙ a.base; in_phase = b.in_phase ∙ a.in_phase }
 
 -- an owner that is not in the area

@@ -15,3 +15,9 @@ pub mod Turns
 pub mod Disposing
 pub mod EditLemmas
 pub mod Passes
+pub mod Pumpings
+pub mod Filling
+pub mod Running
+pub mod Effects
+pub mod Rows
+pub mod Pumps

@@ -25,8 +25,8 @@ use Rattle.run_history.specs.Calls.{Call, set, get, Calls, IsGot}
 use Rattle.run_history.proofs.Lists.{append_nil}
 use Rattle.run_history.proofs.Steps.{nothing_goes, goes_on}
 use Rattle.phase_graph.specs.declared.table.Table.{Table}
-use Rattle.phase_graph.specs.Table.{state_of, open_seen, IsTable, IsFullAt, HasOwner, IsFilled, IsStirred, IsAnswered, IsWrittenIn, IsAsBefore, IsSettled, MakesCall}
-use Rattle.phase_graph.specs.Way.{ShowsAs, IsOnWay}
+use Rattle.phase_graph.specs.Table.{state_of, open_seen, IsTable, IsFullAt, HasOwner, IsFilled, IsStirred, IsAnswered, IsWrittenIn, IsAsBefore, IsSettled, MakesCall, MakesHome}
+use Rattle.phase_graph.specs.Way.{ShowsAs, IsOnWay, AreHome}
 use Rattle.phase_graph.proofs.Starts.{at_clock, with_plan, from_here}
 use Rattle.phase_graph.proofs.Changes as changes
 use Rattle.phase_graph.proofs.Writes as writes
@@ -44,6 +44,12 @@ Gives t edits room pass call s g = (block : List Noted) × (h : Going) × Calls 
 -- it is enough to say it of a phase with the table's plan, from where the table stands
 pub makes : (t t' : Table) (pass : ℕ) (call : Call) → ((s : Start) (edits : List (List Edit)) (room : ℕ) → IsOnWay (with_plan s t.plan) (at_clock t.clock) (open_seen t edits room) → Gives t' edits room pass call (with_plan s t.plan) (at_clock t.clock)) → MakesCall t t' pass call
 makes t t' pass call f s g edits room way = from_here s g (open_seen t edits room) (Gives t' edits room pass call) way (f s edits room)
+
+-- the same, where no row of the plan is of an owner that was dead when the phase opened
+pub makes_home : (t t' : Table) (pass : ℕ) (call : Call) → ((s : Start) (edits : List (List Edit)) (room : ℕ) → AreHome (with_plan s t.plan) → IsOnWay (with_plan s t.plan) (at_clock t.clock) (open_seen t edits room) → Gives t' edits room pass call (with_plan s t.plan) (at_clock t.clock)) → MakesHome t t' pass call
+makes_home t t' pass call f s g edits room home way =
+    let at_home : AreHome (with_plan s t.plan) = record { homes = λ n node at. home.homes n node (ap (λ (p : Plan). slice_get p.nodes n) (sym way.plan) ∙ at) } in
+    from_here s g (open_seen t edits room) (Gives t' edits room pass call) way (f s edits room at_home)
 
 shows_number : (s : Start) (es : List Noted) (base n : ℕ) (row : Opened) (k : Kind) → k ≢ kind.Effect → ShowsAs k s es base n row → row.version - base ≡ shown_number es n
 shows_number s es base n row kind.Signal e h = h.number

@@ -17,8 +17,8 @@ use Rattle.run_history.specs.Going.{Start, Going}
 use Rattle.run_history.specs.Calls.{Call, Calls}
 use Rattle.phase_graph.specs.declared.table.Table.{Table}
 use Rattle.phase_graph.specs.Graph.{GraphState}
-use Rattle.phase_graph.specs.Table.{seen, open_seen, IsTable, IsSettled, MakesCall}
-use Rattle.phase_graph.specs.Way.{IsOnWay}
+use Rattle.phase_graph.specs.Table.{seen, open_seen, IsTable, IsSettled, MakesCall, MakesHome}
+use Rattle.phase_graph.specs.Way.{IsOnWay, AreHome}
 use Rattle.phase_graph.proofs.Changes.{unclean_most}
 
 -- while a phase is open all that was noted is seen
@@ -29,6 +29,12 @@ pub graph_calls : (x : GraphState) (t t' : Table) (lists : List (List Edit)) (ro
 graph_calls x t t' lists room pass call view phase makes s g way =
     let on = subst (IsOnWay s g) (sym view) way in
     let r = makes s g lists room (subst (IsOnWay s g) (seen_open t lists room on.is_open) on) in
+    (r.0, r.1, r.2, subst (IsOnWay s r.1) (sym (seen_open t' lists room (phase ∙ on.is_open))) r.3)
+
+pub graph_home : (x : GraphState) (t t' : Table) (lists : List (List Edit)) (room pass : ℕ) (call : Call) → seen t lists room ≡ x → t'.clock.in_phase ≡ t.clock.in_phase → MakesHome t t' pass call → (s : Start) (g : Going) → AreHome s → IsOnWay s g x → (block : List Noted) × (h : Going) × Calls s g block h pass call × IsOnWay s h (seen t' lists room)
+graph_home x t t' lists room pass call view phase makes s g home way =
+    let on = subst (IsOnWay s g) (sym view) way in
+    let r = makes s g lists room home (subst (IsOnWay s g) (seen_open t lists room on.is_open) on) in
     (r.0, r.1, r.2, subst (IsOnWay s r.1) (sym (seen_open t' lists room (phase ∙ on.is_open))) r.3)
 
 -- ---- settling

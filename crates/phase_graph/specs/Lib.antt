@@ -1,3 +1,4 @@
 pub mod Graph
 pub mod Way
 pub mod Table
+pub mod Pumping

@@ -31,7 +31,7 @@ use Rattle.run_meaning.specs.Opened.{around_from}
 use Rattle.run_history.specs.Going.{Start, Going}
 use Rattle.run_history.specs.Calls.{Call, edit, Calls}
 use Rattle.phase_graph.specs.Graph.{GraphState}
-use Rattle.phase_graph.specs.Way.{IsOnWay}
+use Rattle.phase_graph.specs.Way.{IsOnWay, AreHome}
 
 -- what is seen of these parts while a phase is open
 abbrev pub state_of : Plan → List Opened → List Bool → Clock → List (List Edit) → ℕ → GraphState
@@ -126,6 +126,10 @@ pub record IsFilled (old new : Table) (number : ℕ) : Type 0 where
 -- the call takes a phase of the table from what it was to what it is
 abbrev pub MakesCall : Table → Table → ℕ → Call → Type 0
 MakesCall old new pass call = (s : Start) (g : Going) (edits : List (List Edit)) (room : ℕ) → IsOnWay s g (open_seen old edits room) → (block : List Noted) × (h : Going) × Calls s g block h pass call × IsOnWay s h (open_seen new edits room)
+
+-- the same, where no row of the plan is of an owner that was dead when the phase opened
+abbrev pub MakesHome : Table → Table → ℕ → Call → Type 0
+MakesHome old new pass call = (s : Start) (g : Going) (edits : List (List Edit)) (room : ℕ) → AreHome s → IsOnWay s g (open_seen old edits room) → (block : List Noted) × (h : Going) × Calls s g block h pass call × IsOnWay s h (open_seen new edits room)
 
 -- what a call of a phase keeps of the table
 pub record IsKept (old new : Table) : Type 0 where

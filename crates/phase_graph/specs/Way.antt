@@ -41,6 +41,10 @@ pub record IsOnWay (s : Start) (g : Going) (x : GraphState) : Type 0 where
   pub alive : (owner : ℕ) → slice_get x.live owner ≡ Some true → ¬ IsDead s g.entries owner
   pub noted_edits : (pass : ℕ) (edits : List Edit) → numbered x.edits pass ≡ Some edits → length edits ≡ edits_by pass g.entries
 
+-- no row of the plan is of an owner that was dead when the phase opened
+pub record AreHome (s : Start) : Type 0 where
+  pub homes : (n : ℕ) (node : PlanNode) → slice_get s.plan.nodes n ≡ Some node → slice_get s.live node.owner ≡ Some true
+
 -- ---- when a phase may open so
 
 -- no effect's value is asked for: what it ran to is

@@ -4,14 +4,14 @@ ghost use Rattle.values.specs.declared.plan.Kind.TheVariants as kind;
 ghost use Rattle.values.specs.declared.plan.Noted.{Noted as NotedValue};
 ghost use Rattle.script_items.specs.Script.{numbered};
 ghost use Rattle.run_history.specs.Going.{Start, Going};
-ghost use Rattle.run_history.specs.Calls.{set, get, dispose, edit, Calls};
+ghost use Rattle.run_history.specs.Calls.{set, get, pump, dispose, edit, Calls};
 ghost use Rattle.phase_graph.specs.Graph.{StaysOpen};
-ghost use Rattle.phase_graph.specs.Way.{IsOnWay};
+ghost use Rattle.phase_graph.specs.Way.{IsOnWay, AreHome};
 
 use crate::edits::edit_in;
 use crate::graph::Graph;
 use store_fields::Edit;
-use values::{Code, Disposal, Stop};
+use values::{Code, Disposal, Pumped, Stop};
 
 impl Graph {
     /// Writes the value to a signal or a field, and answers its number. `Disposed` where the row's owner is disposed,
@@ -39,6 +39,18 @@ impl Graph {
         ensures call { (s : Start) (g : Going) (pass : ℕ) → IsOnWay s g self.old → (block : List NotedValue) × (h : Going) × Calls s g block h pass (get node result) × IsOnWay s h self.new }
     {
         self.table.get(node)
+    }
+
+    /// Runs each effect that needs a run, in order of row. An effect whose owner is disposed is passed over. One that
+    /// finds no number is left for a later call.
+    pub fn pump(&mut self) -> Pumped
+        requires open { self.old.is_open ≡ true }
+        ensures stays { StaysOpen self.old self.new }
+        ensures edits { self.new.edits ≡ self.old.edits }
+        ensures live { self.new.live ≡ self.old.live }
+        ensures call { (s : Start) (g : Going) (pass : ℕ) → AreHome s → IsOnWay s g self.old → (block : List NotedValue) × (h : Going) × Calls s g block h pass (pump result) × IsOnWay s h self.new }
+    {
+        self.table.pump()
     }
 
     /// Disposes the owner and all owners inside it, inner ones first. It takes the time of the owners from this one on.

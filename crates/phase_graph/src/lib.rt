@@ -9,6 +9,7 @@ mod getting;
 mod graph;
 mod making;
 mod phases;
+mod pumping;
 mod table;
 mod writing;
 

@@ -53,6 +53,7 @@ impl Table {
         requires past { 65536 ≤ self.old.clock.drawn }
         ensures table { IsTable self.new }
         ensures filled { IsFilled self.old self.new result }
+        ensures once { (number : ℕ) → self.old.full ≡ Some number → self.new ≡ self.old }
     {
         if let Some(number) = self.full {
             return number;
