@@ -1,5 +1,5 @@
 //! Held state.
-ghost use Rattle.std.specs.Prelude.{◌≡◌, IsSome, IfOk};
+ghost use Rattle.std.specs.Prelude.{◌≡◌, IsSome, IfOk, length};
 ghost use Rattle.std.specs.Option.{option_copied, option_copied_mut};
 ghost use Rattle.plain_evaluation.specs.Held.{is_live};
 ghost use Rattle.plain_evaluation.specs.Changed.{signal_of, store_of, load_of, with_code, with_arrived};
@@ -57,6 +57,13 @@ impl Held {
             live,
             goings,
         })
+    }
+
+    /// How many ids there are, whatever each of them holds.
+    pub fn count(&self) -> usize
+        ensures { result ≡ length self.now.held.holdings }
+    {
+        self.holdings.len()
     }
 
     /// Whether the owner is live. An owner that the component has not is not.
