@@ -1,10 +1,11 @@
--- What a settling leaves, as far as it goes yet: with no loads, and behind phases of writes and reads.
+-- What a settling leaves, as far as it goes yet: with no loads.
 use Rattle.std.specs.Prelude.{◌≡◌, ◌≤◌, ℕ, ◌+◌, List, [], ◌∷◌, ◌++◌, Option}
 use Rattle.values.specs.declared.code.Code.{Code}
 use Rattle.plain_evaluation.specs.Scratch.{pending}
 use Rattle.run_meaning.specs.Phase.{Phase}
 use Rattle.run_meaning.specs.Run.{held_arrived, after}
 use Rattle.phase_graph.specs.Graph.{ticks_of}
+use Rattle.phase_edits.specs.Told.{AreTold}
 use Rattle.still_graph.specs.Still.{StillState, IsSettledAfter, HasEnded}
 use Rattle.still_graph.specs.declared.still.Stage.TheVariants.{Made, Settled}
 
@@ -12,7 +13,7 @@ pub record Settles (old new : StillState) : Type 0 where
   pub component : new.component ≡ old.component
   pub stage : new.stage ≡ Settled
   pub first : old.stage ≡ Made → (keys : ℕ → Option Code) × (new.state.held ≡ held_arrived keys old.state.held) × IsSettledAfter [] new
-  pub after_phase : (past : List Phase) (p : Phase) → HasEnded past p old → (keys : ℕ → Option Code) × (new.state.held ≡ after old.component p keys) × IsSettledAfter (past ++ p ∷ []) new
+  pub after_phase : (past : List Phase) (p : Phase) → HasEnded past p old → (keys : ℕ → Option Code) × (new.state.held ≡ after old.component p keys) × IsSettledAfter (past ++ p ∷ []) new × AreTold p new.verdicts
   pub again : old.stage ≡ Settled → (keys : ℕ → Option Code) × (new.state.held ≡ held_arrived keys old.state.held) × ((past : List Phase) → IsSettledAfter past old → IsSettledAfter past new)
   pub none_pending : pending new.component new.state.held ≡ []
   pub ticks_raised : ticks_of new.graph ≤ ticks_of old.graph + 16384

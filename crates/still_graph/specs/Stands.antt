@@ -1,9 +1,6 @@
 -- What holds of a graph at each stage.
 use Rattle.std.specs.Prelude.{◌≡◌, ◌≢◌, ◌<◌, ℕ, true, false, List, [], ◌∷◌, ◌++◌, slice_get, Some, None, Option}
-use Rattle.values.specs.declared.plan.Fact.{Fact}
-use Rattle.values.specs.declared.plan.Fact.TheVariants as fact
 use Rattle.values.specs.declared.plan.Kind.TheVariants as kind
-use Rattle.values.specs.declared.plan.Noted.{Noted}
 use Rattle.values.specs.declared.plan.PlanNode.{PlanNode}
 use Rattle.values.specs.declared.code.Code.{Code}
 use Rattle.values.specs.Packing.{unpacked}
@@ -11,7 +8,8 @@ use Rattle.values.specs.PlanValues.{is_derived}
 use Rattle.component_items.specs.declared.component.Component.{Component}
 use Rattle.component_items.specs.Kept.{IsKept}
 use Rattle.sources.specs.declared.opening.Opened as rows
-use Rattle.plain_evaluation.specs.Held.{Held, rows_held, value_held, first_held}
+use Rattle.store_fields.specs.declared.edit.Verdict.{Verdict}
+use Rattle.plain_evaluation.specs.Held.{Held, value_held, first_held}
 use Rattle.plain_evaluation.specs.Place.{Place}
 use Rattle.plain_evaluation.specs.Written.{state_of, written}
 use Rattle.plan_meaning.specs.Layout.{places_of, plan_of}
@@ -19,10 +17,7 @@ use Rattle.plan_meaning.specs.Values.{row_values}
 use Rattle.held_state.specs.State.{HeldState, IsOf}
 use Rattle.run_items.specs.Journal.{JournalPhase}
 use Rattle.run_meaning.specs.Opened.{Opened}
-use Rattle.run_meaning.specs.Explained.{IsWritten}
-use Rattle.run_meaning.specs.Words.{In}
 use Rattle.run_history.specs.Going.{Start, Going}
-use Rattle.still_graph.specs.Folding.{SignalsHold}
 use Rattle.phase_graph.specs.Graph.{GraphState}
 use Rattle.phase_graph.specs.Way.{IsOnWay}
 use Rattle.still_graph.specs.Still.{StillState, opened_in, ended}
@@ -30,8 +25,8 @@ use Rattle.still_graph.specs.declared.still.Stage.{Stage}
 use Rattle.still_graph.specs.declared.still.Stage.TheVariants.{Made, Settled, Open, Ended}
 
 -- the graph of a component in held state
-abbrev pub still_of : Component → HeldState → List Place → GraphState → List JournalPhase → Stage → StillState
-still_of component state places graph journal stage = record { component = component; state = state; places = places; graph = graph; journal = journal; stage = stage }
+abbrev pub still_of : Component → HeldState → List Place → GraphState → List JournalPhase → Stage → List (List Verdict) → StillState
+still_of component state places graph journal stage verdicts = record { component = component; state = state; places = places; graph = graph; journal = journal; stage = stage; verdicts = verdicts }
 
 -- ---- rows and held state
 
@@ -49,25 +44,16 @@ abbrev pub HasPlainValues : Component → Held → GraphState → Type 0
 HasPlainValues component held graph = (n : ℕ) (node : PlanNode) (row : rows.Opened) → slice_get graph.plan.nodes n ≡ Some node → slice_get graph.rows n ≡ Some row
     → node.kind ≢ kind.Effect → slice_get (row_values component (state_of held)) n ≡ Some (unpacked row.code)
 
--- ---- phases of writes and reads alone
-
-abbrev pub IsWriteOrChange : Opened → Fact → Type 0
-IsWriteOrChange o (fact.Write row code) = IsWritten o row
-IsWriteOrChange o (fact.Change row code) = Unit {0}
-IsWriteOrChange o (fact.Ran row code) = ⊥
-IsWriteOrChange o (fact.Void row) = ⊥
-IsWriteOrChange o (fact.Disposed owner) = ⊥
-IsWriteOrChange o (fact.Edit pass index) = ⊥
+-- ---- phases
 
 abbrev pub start_with : (ℕ → Option Code) → Opened → Start
 start_with ran o = record { plan = o.plan; values = o.values; live = o.held.live; ran = ran }
 
--- a phase that opened so is under way, and has noted writes and changes alone
+-- a phase that opened so is under way
 pub record IsRunning (o : Opened) (graph : GraphState) : Type 0 where
   pub ran : ℕ → Option Code
   pub going : Going
   pub way : IsOnWay (start_with ran o) going graph
-  pub alone : (e : Noted) → In e going.entries → IsWriteOrChange o e.fact
 
 -- such a phase has ended, and is the last of the journal
 pub record IsLast (o : Opened) (graph : GraphState) (journal : List JournalPhase) : Type 0 where
@@ -85,11 +71,14 @@ pub record IsMade (x : StillState) : Type 0 where
   pub journal : x.journal ≡ []
   pub closed : x.graph.is_open ≡ false
   pub drawn : x.graph.drawn ≡ 0
+  pub first : x.state.held ≡ first_held x.component
+  pub live : x.graph.live ≡ x.state.held.live
   pub signals : SignalsAreHeld x.state.held x.places x.graph
   pub fresh : NoneRan x.graph
 
 pub record IsAtRest (x : StillState) : Type 0 where
   pub closed : x.graph.is_open ≡ false
+  pub live : x.graph.live ≡ x.state.held.live
   pub values : HasPlainValues x.component x.state.held x.graph
 
 pub record IsInPhase (x : StillState) (room : ℕ) : Type 0 where
@@ -108,9 +97,4 @@ pub record IsStill (x : StillState) (room : ℕ) : Type 0 where
   pub fits : IsOf x.component x.state
   pub places : x.places ≡ places_of (written x.component x.state.held)
   pub plan : x.graph.plan ≡ plan_of x.component (state_of x.state.held)
-  pub live : x.graph.live ≡ x.state.held.live
-  pub signals : SignalsHold x.graph.plan x.places x.state.held
-  -- as yet no owner dies, and no store has rows
-  pub all_live : x.state.held.live ≡ (first_held x.component).live
-  pub no_rows : (id : ℕ) → rows_held x.state.held id ≡ []
   pub at_stage : StandsAt x.stage x room

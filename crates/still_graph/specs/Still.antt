@@ -5,6 +5,7 @@ use Rattle.values.specs.declared.plan.PlanNode.{PlanNode}
 use Rattle.values.specs.Packing.{unpacked}
 use Rattle.component_items.specs.declared.component.Component.{Component}
 use Rattle.sources.specs.declared.opening.Opened as rows
+use Rattle.store_fields.specs.declared.edit.Verdict.{Verdict}
 use Rattle.plain_evaluation.specs.Place.{Place}
 use Rattle.held_state.specs.State.{HeldState}
 use Rattle.run_items.specs.Journal.{JournalPhase}
@@ -15,6 +16,7 @@ use Rattle.run_meaning.specs.Run.{journal_of}
 use Rattle.run_history.specs.Going.{Start, start_of, Going}
 use Rattle.phase_graph.specs.Graph.{GraphState, ticks_of}
 use Rattle.phase_graph.specs.Way.{IsOnWay}
+use Rattle.phase_edits.specs.Posts.{ArePosted}
 use Rattle.still_graph.specs.declared.still.Stage.{Stage}
 use Rattle.still_graph.specs.declared.still.Stage.TheVariants.{Settled, Open, Ended}
 
@@ -27,6 +29,8 @@ pub record StillState : Type 0 where
   pub graph : GraphState
   pub journal : List JournalPhase
   pub stage : Stage
+  -- what came of the edits of the last phase that was settled, by pass
+  pub verdicts : List (List Verdict)
 
 -- what a phase opens with
 abbrev pub opened_in : StillState → Opened
@@ -63,3 +67,5 @@ pub record HasEnded (past : List Phase) (p : Phase) (x : StillState) : Type 0 wh
   pub before : GraphState
   pub way : IsOnWay (start_of past p.opened) (record { drawn = p.drawn; entries = p.entries }) before
   pub graph_is : x.graph ≡ ended before
+  -- the edits of each lane are those of its pass
+  pub posts : ArePosted p.lanes x.graph.edits

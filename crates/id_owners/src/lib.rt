@@ -1,0 +1,6 @@
+//! The owner of each id of a component, found in one step.
+#![tactic(auto)]
+
+mod table;
+
+pub use table::IdOwners;

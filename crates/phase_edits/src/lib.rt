@@ -1,0 +1,9 @@
+//! What the edits and the disposals of a phase leave of held state, and what comes of each edit.
+#![tactic(auto)]
+
+mod disposals;
+mod edits;
+pub mod laws;
+
+pub use disposals::fold_disposals;
+pub use edits::fold_edits;

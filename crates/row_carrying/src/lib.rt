@@ -1,0 +1,8 @@
+//! Rows that go over from one layout to the next.
+#![tactic(auto)]
+
+mod carry;
+mod targets;
+
+pub use carry::carry_over;
+pub use targets::rows_to;

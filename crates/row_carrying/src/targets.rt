@@ -1,0 +1,18 @@
+//! Which row goes to which.
+ghost use Rattle.std.specs.Prelude.{◌≡◌, IfOk};
+ghost use Rattle.plan_meaning.specs.Carried as spec;
+
+use node_names::Names;
+use std::alloc::Global;
+use values::NoMemory;
+
+/// For each row of the first layout the row of its place in the second, where there is one.
+pub fn rows_to(alloc: Global, old: &Names, new: &Names) -> Result<Vec<Option<u32>>, NoMemory>
+    ensures { IfOk result (λ to. to.items ≡ spec.rows_to old.now new.now) }
+{
+    let mut to = Vec::with_capacity(alloc, old.len() as usize)?;
+    for row in 0..old.len() {
+        to.push(target(old, new, row))?;
+    }
+    Ok(to)
+}
