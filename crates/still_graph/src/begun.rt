@@ -5,25 +5,30 @@ ghost use Rattle.plain_evaluation.specs.Held.{first_held, value_held};
 ghost use Rattle.plain_evaluation.specs.Place.{Place};
 ghost use Rattle.held_state.specs.State.{IsOf, first_state};
 ghost use Rattle.phase_graph.specs.Graph.{ticks_of};
+ghost use Rattle.id_owners.specs.Table.{owners_by_id};
 ghost use Rattle.still_graph.specs.Stands.{still_of, IsStill};
 ghost use Rattle.still_graph.specs.declared.still.Stage.TheVariants.{Made};
 
 use crate::journal::Journal;
 use component_items::Component;
 use held_state::Held;
+use id_owners::IdOwners;
 use node_names::Names;
 use node_plan::{Laid, lay_out};
 use phase_graph::Graph;
 use std::alloc::Global;
+use store_fields::Verdicts;
 use values::{Code, NoMemory};
 
 /// All of a graph but its component.
 #[derive(Drop)]
 pub(crate) struct Begun {
+    pub owners: IdOwners,
     pub held: Held,
     pub names: Names,
     pub graph: Graph,
     pub journal: Journal,
+    pub verdicts: Vec<Verdicts>,
 }
 
 impl Begun {
@@ -32,7 +37,9 @@ impl Begun {
         ensures state { IfOk result (λ begun. begun.held ≡ first_state component.now) }
         ensures journal { IfOk result (λ begun. begun.journal.phases ≡ []) }
         ensures ticks { IfOk result (λ begun. ticks_of begun.graph ≡ 0) }
-        ensures stands { IfOk result (λ begun. IsStill (still_of component.now begun.held begun.names begun.graph begun.journal.phases Made) begun.journal.spare) }
+        ensures owners { IfOk result (λ begun. begun.owners ≡ owners_by_id component.now) }
+        ensures verdicts { IfOk result (λ begun. begun.verdicts.items ≡ []) }
+        ensures stands { IfOk result (λ begun. IsStill (still_of component.now begun.held begun.names begun.graph begun.journal.phases Made begun.verdicts.items) begun.journal.spare) }
     {
         let held = first_held(alloc, component)?;
         let Laid { plan, names } = lay_out(alloc, component, &held)?;
@@ -40,10 +47,12 @@ impl Begun {
         let live = vec![in alloc; true; plan.owners.len()]?;
         let graph = Graph::new(alloc, plan, live, codes.as_slice())?;
         Ok(Begun {
+            owners: IdOwners::new(alloc, component)?,
             held,
             names,
             graph,
             journal: Journal::new(alloc),
+            verdicts: Vec::new(alloc),
         })
     }
 }

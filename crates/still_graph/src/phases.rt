@@ -4,13 +4,17 @@ ghost use Rattle.values.specs.declared.plan.Kind.TheVariants as kind;
 ghost use Rattle.values.specs.declared.plan.Noted.{Noted as NotedValue};
 ghost use Rattle.run_meaning.specs.Phase.{Phase};
 ghost use Rattle.run_history.specs.Going.{Going, just_opened};
-ghost use Rattle.run_history.specs.Calls.{Call, set, get, Calls};
-ghost use Rattle.phase_graph.specs.Graph.{ticks_of, StaysOpen};
+ghost use Rattle.script_items.specs.Script.{numbered};
+ghost use Rattle.run_history.specs.Calls.{Call, set, get, pump, dispose, edit, Calls};
+ghost use Rattle.phase_graph.specs.Graph.{ticks_of, StaysOpen, edits_with};
+ghost use Rattle.phase_graph.specs.Way.{no_edits};
+ghost use Rattle.phase_edits.specs.Posts.{ArePosted};
 ghost use Rattle.still_graph.specs.Still.{opened_in, start_in, IsSettledAfter, IsOpenAt, HasEnded};
 
 use crate::still::{Stage, Still};
 use std::alloc::Global;
-use values::{Code, NoMemory, Stop};
+use store_fields::Edit;
+use values::{Code, Disposal, NoMemory, Pumped, Stop};
 
 impl Still {
     /// Opens a phase of so many passes, each of which may note so many edits. All memory of the phase is taken here.
@@ -23,7 +27,8 @@ impl Still {
         ensures opened { OnOk result ((past : List Phase) → IsSettledAfter past self.old → IsOpenAt past just_opened self.new) }
         ensures rest { OnOk result (self.new ≡ record self.old { stage = Stage.Open; graph = self.new.graph }) }
         ensures base { OnOk result (self.new.graph.base ≡ ticks_of self.old.graph) }
-        ensures passes_are { OnOk result (length self.new.graph.edits ≡ passes) }
+        ensures passes_are { OnOk result (self.new.graph.edits ≡ no_edits passes) }
+        ensures room { OnOk result (self.new.graph.edit_room ≡ edits) }
         ensures unchanged { OnErr result (self.new ≡ self.old) }
     {
         self.journal.ready()?;
@@ -58,6 +63,44 @@ impl Still {
     {
         self.graph.get(node)
     }
+
+    /// Runs each effect that needs a run, in order of row. An effect whose owner is disposed is passed over. One that
+    /// finds no number is left for a later call.
+    pub fn pump(&mut self) -> Pumped
+        requires open { self.old.stage ≡ Stage.Open }
+        ensures rest { self.new ≡ record self.old { graph = self.new.graph } }
+        ensures stays { StaysOpen self.old.graph self.new.graph }
+        ensures edits { self.new.graph.edits ≡ self.old.graph.edits }
+        ensures call { (past : List Phase) (g : Going) (pass : ℕ) → IsOpenAt past g self.old → (block : List NotedValue) × (h : Going) × Calls (start_in past self.old) g block h pass (pump result) × IsOpenAt past h self.new }
+    {
+        self.graph.pump()
+    }
+
+    /// Disposes the owner and all owners inside it, inner ones first. It takes the time of the owners from this one on.
+    pub fn dispose(&mut self, owner: u32) -> Disposal
+        requires open { self.old.stage ≡ Stage.Open }
+        requires owner { owner < length self.old.graph.plan.owners }
+        ensures rest { self.new ≡ record self.old { graph = self.new.graph } }
+        ensures stays { StaysOpen self.old.graph self.new.graph }
+        ensures edits { self.new.graph.edits ≡ self.old.graph.edits }
+        ensures call { (past : List Phase) (g : Going) (pass : ℕ) → IsOpenAt past g self.old → (block : List NotedValue) × (h : Going) × Calls (start_in past self.old) g block h pass (dispose owner result) × IsOpenAt past h self.new }
+    {
+        self.graph.dispose(owner)
+    }
+
+    /// Notes the edit of what the owner owns, as one of this pass, and answers its number. It is made when the phase is
+    /// settled. `Disposed` where the owner is disposed, and `Full` where the number is above the last of a phase.
+    pub fn edit(&mut self, pass: u32, owner: u32, asked: Edit) -> Result<u32, Stop>
+        requires open { self.old.stage ≡ Stage.Open }
+        requires owner { owner < length self.old.graph.plan.owners }
+        requires pass { IsSomeAnd (numbered self.old.graph.edits pass) (λ edits. length edits < self.old.graph.edit_room) }
+        ensures rest { self.new ≡ record self.old { graph = self.new.graph } }
+        ensures stays { StaysOpen self.old.graph self.new.graph }
+        ensures edits { self.new.graph.edits ≡ edits_with self.old.graph.edits pass asked result }
+        ensures call { (past : List Phase) (g : Going) → IsOpenAt past g self.old → (block : List NotedValue) × (h : Going) × Calls (start_in past self.old) g block h pass (edit owner asked result) × IsOpenAt past h self.new }
+    {
+        self.graph.edit(pass, owner, asked)
+    }
 }
 
 impl Still {
@@ -69,9 +112,10 @@ impl Still {
         ensures component { self.new.component ≡ self.old.component }
         ensures state { self.new.state ≡ self.old.state }
         ensures ticks { ticks_of self.new.graph ≡ ticks_of self.old.graph }
+        ensures verdicts { self.new.verdicts ≡ self.old.verdicts }
         ensures few { self.old.graph.drawn < 2 ^ 31 }
         ensures ended { (past : List Phase) (p : Phase) → p.opened ≡ opened_in self.old → IsOpenAt past (record { drawn = p.drawn; entries = p.entries }) self.old → p.base ≡ self.old.graph.base
-            → p.counts ≡ replicate (length self.old.graph.edits) no_counts → HasEnded past p self.new }
+            → p.counts ≡ replicate (length self.old.graph.edits) no_counts → ArePosted p.lanes self.old.graph.edits → HasEnded past p self.new }
     {
         let base = self.graph.base();
         let counted = self.graph.passes();

@@ -5,6 +5,7 @@ ghost use Rattle.plain_evaluation.specs.Scratch.{pending};
 ghost use Rattle.run_meaning.specs.Phase.{Phase};
 ghost use Rattle.run_meaning.specs.Run.{held_arrived, after};
 ghost use Rattle.phase_graph.specs.Graph.{ticks_of};
+ghost use Rattle.phase_edits.specs.Told.{AreTold};
 ghost use Rattle.still_graph.specs.Loads.{has_load};
 ghost use Rattle.still_graph.specs.Still.{IsSettledAfter, HasEnded};
 
@@ -38,11 +39,13 @@ pub enum Settled {
 impl Still {
     ghost use Rattle.still_graph.specs.Answers.{ids_of};
 
-    /// Settles the graph: held state takes what the last phase wrote, and each memo has its value. No effect runs. As
-    /// yet it works with no loads, so the loader isn't asked, and it takes no memory.
+    /// Settles the graph: held state takes what the last phase wrote, its edits are made in order of number, what it
+    /// disposed is taken out, and each memo has its value. Where rows may come or go, the component is laid out again, and
+    /// what stays goes over by its place. No effect runs. As yet it works with no loads, so the loader isn't asked. After
+    /// want of memory the graph is as it was.
     pub fn settle<L: Loader>(
         &mut self,
-        _alloc: Global,
+        alloc: Global,
         _loader: &mut L,
     ) -> Result<Settled, NoMemory>
         requires closed { self.old.stage ≢ Stage.Open }
@@ -52,6 +55,7 @@ impl Still {
         ensures stage { OnOk result (self.new.stage ≡ Stage.Settled) }
         ensures first { OnOk result (self.old.stage ≡ Stage.Made → (keys : ℕ → OptionOf CodeValue) × (self.new.state.held ≡ held_arrived keys self.old.state.held) × IsSettledAfter [] self.new) }
         ensures after { OnOk result ((past : List Phase) (p : Phase) → HasEnded past p self.old → (keys : ℕ → OptionOf CodeValue) × (self.new.state.held ≡ after self.old.component p keys) × IsSettledAfter (past ++ p ∷ []) self.new) }
+        ensures told { OnOk result ((past : List Phase) (p : Phase) → HasEnded past p self.old → AreTold p self.new.verdicts) }
         ensures again { OnOk result (self.old.stage ≡ Stage.Settled → (keys : ℕ → OptionOf CodeValue) × (self.new.state.held ≡ held_arrived keys self.old.state.held) × ((past : List Phase) → IsSettledAfter past self.old → IsSettledAfter past self.new)) }
         ensures pending { IfOk result (λ settled. ids_of settled ≡ pending self.new.component self.new.state.held) }
         ensures ticks_raised { ticks_of self.new.graph ≤ ticks_of self.old.graph + 16384 }

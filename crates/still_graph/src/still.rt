@@ -1,6 +1,8 @@
 //! The object.
-ghost use Rattle.std.specs.Prelude.{◌≡◌, ◌≢◌, [], IfOk, IfErr, slice_get};
-ghost use Rattle.std.specs.Option.{option_map, option_copied};
+ghost use Rattle.std.specs.Prelude.{◌≡◌, [], false, IfOk, IfErr, slice_get, slice_index_or};
+ghost use Rattle.std.specs.Option.{option_map, option_copied, option_and_then};
+ghost use Rattle.script_items.specs.Script.{numbered};
+ghost use Rattle.plain_evaluation.specs.Changed.{store_of};
 ghost use Rattle.values.specs.Packing.{unpacked};
 ghost use Rattle.component_items.specs.Kept.{IsKept};
 ghost use Rattle.held_state.specs.State.{IsOf, first_state};
@@ -14,11 +16,13 @@ use crate::begun::Begun;
 use crate::journal::Journal;
 use component_items::Component;
 use held_state::Held;
+use id_owners::IdOwners;
 use node_names::{Names, NodePlace};
 use phase_graph::Graph;
 use sources::{Body, Colour};
 use std::alloc::Global;
 use std::marker::Model;
+use store_fields::{Rows, Verdict, Verdicts};
 use values::{Code, NoMemory, Plan};
 
 /// How far a graph is.
@@ -50,11 +54,13 @@ pub enum Target {
 #[derive(Drop)]
 pub struct Still {
     pub(crate) component: Component,
+    pub(crate) owners: IdOwners,
     pub(crate) held: Held,
     pub(crate) names: Names,
     pub(crate) graph: Graph,
     pub(crate) journal: Journal,
     pub(crate) stage: Stage,
+    pub(crate) verdicts: Vec<Verdicts>,
 }
 
 impl Model for Still {
@@ -62,6 +68,7 @@ impl Model for Still {
     ghost use Rattle.component_items.specs.contracts.component.Component as parts_model;
     ghost use Rattle.held_state.specs.contracts.held.Held as held_model;
     ghost use Rattle.phase_graph.specs.contracts.graph.Graph as graph_model;
+    ghost use Rattle.id_owners.specs.Table.{owners_by_id};
     ghost use Rattle.still_graph.specs.Still.{StillState};
     ghost use Rattle.still_graph.specs.Stands.{still_of, IsStill};
 
@@ -69,9 +76,9 @@ impl Model for Still {
 
     ghost coded = { Prim.hlevel (codes, parts_model.the_row.coded, held_model.the_row.coded, graph_model.the_row.coded) };
 
-    ghost view = { λ s. still_of s.component s.held s.names s.graph s.journal.phases s.stage };
+    ghost view = { λ s. still_of s.component s.held s.names s.graph s.journal.phases s.stage s.verdicts.items };
 
-    ghost invariant = { λ s. IsStill (still_of s.component s.held s.names s.graph s.journal.phases s.stage) s.journal.spare };
+    ghost invariant = { λ s. IsStill (still_of s.component s.held s.names s.graph s.journal.phases s.stage s.verdicts.items) s.journal.spare × (s.owners ≡ owners_by_id s.component) };
 }
 
 impl Still {
@@ -81,6 +88,7 @@ impl Still {
         ensures state { IfOk result (λ still. still.state ≡ first_state component) }
         ensures journal { IfOk result (λ still. still.journal ≡ []) }
         ensures stage { IfOk result (λ still. still.stage ≡ Stage.Made) }
+        ensures verdicts { IfOk result (λ still. still.verdicts ≡ []) }
         ensures ticks { IfOk result (λ still. ticks_of still.graph ≡ 0) }
         ensures back { IfErr result (λ back. back.0 ≡ component) }
     {
@@ -171,40 +179,81 @@ impl Still {
         Some(&self.graph.row(row)?.body)
     }
 
-    /// What the id stands for, with the key of a store row or with none.
+    /// What the id stands for where a phase opens now, or where the one that is open opened: with the key of a store
+    /// row or with none.
     pub fn target(&self, id: u32, key: Option<Code>) -> Target
-        requires { self.now.stage ≢ Stage.Ended }
         ensures { target_of result ≡ (opened_in self.now).target id key }
     {
+        let owner = self.owners.owner(id);
+        if !self.held.is_live(owner) {
+            return Target::Dead(owner);
+        }
         match self.names.row(NodePlace::new(id, key)) {
             Some(row) => Target::Row(row),
             None => Target::NoRow,
         }
     }
+
+    /// The owner of the item with the id: that of the innermost area around it.
+    pub fn owner_of(&self, id: u32) -> u32
+        ensures { result ≡ (opened_in self.now).owner_of id }
+    {
+        self.owners.owner(id)
+    }
+
+    /// Whether the owner is live. An owner that the component has not is not.
+    pub fn owner_live(&self, owner: u32) -> bool
+        ensures { result ≡ slice_index_or self.now.graph.live owner false }
+    {
+        self.graph.is_live(owner)
+    }
+
+    /// The rows of the store with the id, as they were when the graph was settled last. `None` exactly where there is no
+    /// such live store.
+    pub fn rows(&self, store: u32) -> Option<&Rows>
+        ensures { option_copied result ≡ store_of self.now.state.held store }
+    {
+        self.held.rows(store)
+    }
+
+    /// What came of the edit of this place in the list of this pass, in the last phase that was settled. Passes count
+    /// from 1, places from 0. `None` exactly where there is no such edit.
+    pub fn verdict(&self, pass: u32, index: u32) -> Option<Verdict>
+        ensures { result ≡ option_and_then (λ told. slice_get told index) (numbered self.now.verdicts pass) }
+    {
+        let told = self.verdicts.get(pass.checked_sub(1)? as usize)?;
+        told.at(index as usize).copied()
+    }
 }
 
 impl Still {
+    ghost use Rattle.id_owners.specs.Table.{owners_by_id};
     ghost use Rattle.still_graph.specs.Stands.{still_of, IsStill};
     ghost use Rattle.still_graph.specs.declared.still.Stage.TheVariants.{Made};
 
     /// The graph of these parts.
     fn of(component: Component, begun: Begun) -> Still
-        requires { IsStill (still_of component begun.held begun.names begun.graph begun.journal.phases Made) begun.journal.spare }
-        ensures { result ≡ still_of component begun.held begun.names begun.graph begun.journal.phases Made }
+        requires stands { IsStill (still_of component begun.held begun.names begun.graph begun.journal.phases Made begun.verdicts.items) begun.journal.spare }
+        requires owners { begun.owners ≡ owners_by_id component }
+        ensures { result ≡ still_of component begun.held begun.names begun.graph begun.journal.phases Made begun.verdicts.items }
     {
         let Begun {
+            owners,
             held,
             names,
             graph,
             journal,
+            verdicts,
         } = begun;
         Still {
             component,
+            owners,
             held,
             names,
             graph,
             journal,
             stage: Stage::Made,
+            verdicts,
         }
     }
 }
