@@ -21,3 +21,4 @@ pub mod Running
 pub mod Effects
 pub mod Rows
 pub mod Pumps
+pub mod Relayings

@@ -10,7 +10,9 @@ mod graph;
 mod making;
 mod phases;
 mod pumping;
+mod relaying;
 mod table;
 mod writing;
 
 pub use graph::Graph;
+pub use relaying::Relaid;
