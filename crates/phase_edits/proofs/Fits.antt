@@ -1,5 +1,5 @@
 -- Rows that an edit leaves are rows that their store may have.
-use Rattle.std.proofs.Common.{◌≡◌, ◌≤◌, ◌==◌, ℕ, zero, suc, true, List, [], ◌∷◌, length, Some, Result, Ok, Err, OnOk, refl, sym, ap, ◌∙◌, arith, le-leb}
+use Rattle.std.proofs.Common.{◌≡◌, ◌≤◌, ◌==◌, ℕ, suc, true, List, [], ◌∷◌, length, Some, Result, Ok, Err, OnOk, refl, ap, arith, le-leb}
 use Rattle.std.specs.List.{All, IsDistinct, list_all}
 use Rattle.std.proofs.lemmas.Bool.{and_from, eq-eqb}
 use Rattle.values.specs.Evaluation.{is_same}

@@ -1,6 +1,5 @@
 -- One entry more.
-use Rattle.std.proofs.Common.{◌≡◌, ◌<◌, ◌≤◌, ℕ, zero, suc, ◌+◌, List, [], ◌∷◌, length, drop, Option, Some, None, slice_get, refl, sym, ap, ◌∙◌, arith}
-use Rattle.std.specs.Prelude.{filter_map, fold}
+use Rattle.std.proofs.Common.{◌≡◌, ◌≤◌, ℕ, zero, suc, ◌+◌, List, [], ◌∷◌, length, drop, Option, Some, None, slice_get, refl, sym, ap, ◌∙◌, arith}
 use Rattle.std.specs.List.{cons_option}
 use Rattle.std.proofs.lemmas.List.{drop_all}
 use Rattle.values.specs.declared.plan.Noted.{Noted}
@@ -8,7 +7,6 @@ use Rattle.store_fields.specs.declared.edit.Edit.{Edit}
 use Rattle.store_fields.specs.declared.edit.Verdict.{Verdict}
 use Rattle.component_items.specs.declared.component.Component.{Component}
 use Rattle.plain_evaluation.specs.Held.{Held}
-use Rattle.plain_evaluation.specs.Killed.{killed}
 use Rattle.held_state.specs.State.{HeldState, with_held}
 use Rattle.run_meaning.specs.Entries.{disposed_in, owner_in}
 use Rattle.run_meaning.specs.Edits.{Ordered, held_edited}
@@ -41,10 +39,10 @@ pub disposing_more : (component : Component) (start : HeldState) (entries : List
 disposing_more component start entries i state next e here so is = record {
   same = is ∙ (λ j. with_held (so.same j) (sym held_is j));
   rest =
-    ap (held_disposed component (disposed_in (drop (i + 1) entries))) held_is
-    ∙ sym (disposal_more component (owner_in e.fact) (disposed_in (drop (i + 1) entries)) state.held)
-    ∙ ap (λ es. held_disposed component (disposed_in es) state.held) (sym (drop_one entries i e here))
-    ∙ so.rest;
+      ap (held_disposed component (disposed_in (drop (i + 1) entries))) held_is
+      ∙ sym (disposal_more component (owner_in e.fact) (disposed_in (drop (i + 1) entries)) state.held)
+      ∙ ap (λ es. held_disposed component (disposed_in es) state.held) (sym (drop_one entries i e here))
+      ∙ so.rest;
 }
   where
     held_is : next.held ≡ held_left component (owner_in e.fact) state.held
@@ -75,14 +73,14 @@ pub editing_more : (posts : List (List Edit)) (start : HeldState) (none : List (
 editing_more posts start none entries i state next verdicts later e here so is told = record {
   same = is ∙ (λ j. with_held (so.same j) (sym held_is j));
   rest =
-    ap (held_edited (posted_edits posts (drop (i + 1) entries))) held_is
-    ∙ sym (edit_more (edit_made posts e) (posted_edits posts (drop (i + 1) entries)) state.held)
-    ∙ ap (λ es. held_edited (posted_edits posts es) state.held) (sym (drop_one entries i e here))
-    ∙ so.rest;
+      ap (held_edited (posted_edits posts (drop (i + 1) entries))) held_is
+      ∙ sym (edit_more (edit_made posts e) (posted_edits posts (drop (i + 1) entries)) state.held)
+      ∙ ap (λ es. held_edited (posted_edits posts es) state.held) (sym (drop_one entries i e here))
+      ∙ so.rest;
   told =
-    (λ j. all_told posts (drop (i + 1) entries) (held_is j) (told j))
-    ∙ ap (λ es. all_told posts es state.held verdicts) (sym (drop_one entries i e here))
-    ∙ so.told;
+      (λ j. all_told posts (drop (i + 1) entries) (held_is j) (told j))
+      ∙ ap (λ es. all_told posts es state.held verdicts) (sym (drop_one entries i e here))
+      ∙ so.told;
 }
   where
     held_is : next.held ≡ held_made (edit_made posts e) state.held

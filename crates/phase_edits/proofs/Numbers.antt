@@ -1,6 +1,6 @@
 -- What comes of an edit, told pass by pass, is what is told by its number.
-use Rattle.std.proofs.Common.{◌≡◌, ◌≤◌, ◌<◌, ◌==◌, ℕ, zero, suc, Bool, true, false, if◌then◌else◌, List, [], ◌∷◌, ◌++◌, length, map, Option, Some, None, refl, sym, ap, ◌∙◌, arith}
-use Rattle.std.specs.Prelude.{unwrap_or, IsSome, filter_map}
+use Rattle.std.proofs.Common.{◌≡◌, ◌≤◌, ◌<◌, ◌==◌, ℕ, Bool, true, false, if◌then◌else◌, List, [], ◌∷◌, ◌++◌, length, map, Option, Some, None, refl, sym, ap, ◌∙◌, arith}
+use Rattle.std.specs.Prelude.{unwrap_or, IsSome}
 use Rattle.std.specs.List.{cons_option}
 use Rattle.std.specs.Option.{option_map}
 use Rattle.std.proofs.lemmas.Bool.Decides.{nat_tests}
@@ -12,7 +12,7 @@ use Rattle.store_fields.specs.declared.edit.Verdict.{Verdict}
 use Rattle.store_fields.specs.declared.edit.Verdict.TheVariants.{Absent}
 use Rattle.script_items.specs.Script.{numbered}
 use Rattle.plain_evaluation.specs.Held.{Held}
-use Rattle.run_meaning.specs.Edits.{Ordered, ordered, change, held_changed, held_written, verdict_in, edits_of}
+use Rattle.run_meaning.specs.Edits.{Ordered, ordered, change, held_changed, held_written, verdict_in}
 use Rattle.run_meaning.specs.Phase.{Phase}
 use Rattle.run_history.specs.Going.{Numbered, is_edit_by}
 use Rattle.run_weave.specs.Lanes.{verdict_of}
@@ -119,7 +119,7 @@ module _ (posts : List (List Edit)) where
       others rest =
           rest
           ∙ map_alike (told_at es (held_made (edit_made posts e) held)) (told_at (e ∷ es) held) e.number (edit_numbers pass es) (numbers_above pass e.number high es h.3)
-            (λ n above. ap (λ o. unwrap_or o Absent) (sym (told_later e es held n above)))
+          (λ n above. ap (λ o. unwrap_or o Absent) (sym (told_later e es held n above)))
 
       at : (b : Bool) → verdicts_by posts pass es (held_made (edit_made posts e) held) ≡ map (told_at es (held_made (edit_made posts e) held)) (edit_numbers pass es) → (if b then verdict_made (edit_made posts e) held ∷ [] else []) ++ verdicts_by posts pass es (held_made (edit_made posts e) held) ≡ map (told_at (e ∷ es) held) (cons_option (if b then Some e.number else None) (edit_numbers pass es))
       at true rest = λ i. told_now high e es held h.3 i ∷ others rest i

@@ -1,16 +1,16 @@
 -- The edits of a phase are those that its passes noted.
-use Rattle.std.proofs.Common.{◌≡◌, ◌≤◌, ◌<◌, ℕ, zero, suc, List, [], ◌∷◌, length, Option, Some, None, slice_get, refl, sym, ap, ◌∙◌, arith}
-use Rattle.std.specs.Prelude.{unwrap_or, IsSome, filter_map}
+use Rattle.std.proofs.Common.{◌≡◌, ◌≤◌, ℕ, zero, suc, List, [], ◌∷◌, length, Option, Some, None, slice_get, refl, sym, ap, ◌∙◌, arith}
+use Rattle.std.specs.Prelude.{unwrap_or}
 use Rattle.std.specs.List.{cons_option}
 use Rattle.std.specs.Option.{option_map, option_and_then}
-use Rattle.std.proofs.lemmas.Option.{slice_get_within, slice_get_past}
+use Rattle.std.proofs.lemmas.Option.{slice_get_past}
 use Rattle.values.specs.declared.plan.Fact.{Fact}
 use Rattle.values.specs.declared.plan.Fact.TheVariants as fact
 use Rattle.values.specs.declared.plan.Noted.{Noted}
 use Rattle.store_fields.specs.declared.edit.Edit.{Edit}
 use Rattle.script_items.specs.Script.{numbered}
 use Rattle.run_meaning.specs.Lane.{Done, edits_in}
-use Rattle.run_meaning.specs.Edits.{Ordered, ordered, edit_at, named_edit, edits_of}
+use Rattle.run_meaning.specs.Edits.{ordered, edit_at, named_edit, edits_of}
 use Rattle.phase_edits.specs.Posts.{posted, posted_by, posted_edits, ArePosted}
 
 missing : {A : Type 0} (xs : List A) (i : ℕ) → slice_get xs i ≡ None → length xs ≤ i

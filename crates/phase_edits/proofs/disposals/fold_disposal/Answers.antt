@@ -1,6 +1,4 @@
-use Rattle.std.proofs.Common.{◌≡◌, sym, ap, subst, ◌∙◌}
-use Rattle.component_items.specs.declared.component.Component.{Component}
-use Rattle.component_items.specs.Kept.{IsKept}
+use Rattle.std.proofs.Common.{sym, ap, subst, ◌∙◌}
 use Rattle.held_state.specs.State.{IsOf, with_held}
 use Rattle.held_state.proofs.OfComponent.{goes_by_text, killed_is_of}
 use Rattle.run_meaning.specs.Entries.{owner_in}

@@ -1,5 +1,4 @@
-use Rattle.std.proofs.Common.{[], length, map, ap, ◌∙◌, arith}
-use Rattle.std.specs.Prelude.{replicate}
+use Rattle.std.proofs.Common.{length, map, ap, ◌∙◌, arith}
 use Rattle.phase_edits.specs.Making.{all_told}
 use Rattle.phase_edits.proofs.Folds.{editing_ends}
 use Rattle.phase_edits.proofs.Told.{told_from_nothing}
