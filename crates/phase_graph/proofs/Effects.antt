@@ -1,6 +1,5 @@
 -- The call on one effect, of a table.
-use Rattle.std.proofs.Common.{◌≡◌, ◌≢◌, ◌⊎◌, inl, inr, ⊎_elim, ℕ, ◌+◌, ◌≤◌, ◌<◌, ◌^◌, Bool, true, false, Result, Ok, Err, IfOk, OnOk, OnErr, Option, Some, None, List, slice_get, set, length, refl, sym, ap, subst, ◌∙◌, arith}
-use Rattle.values.specs.declared.code.Code.{Code}
+use Rattle.std.proofs.Common.{◌≡◌, ◌≢◌, ◌⊎◌, inl, inr, ⊎_elim, ℕ, ◌+◌, ◌≤◌, ◌<◌, true, false, Result, Ok, Err, IfOk, OnOk, OnErr, Option, Some, None, List, slice_get, set, length, refl, sym, ap, subst, ◌∙◌, arith}
 use Rattle.values.specs.declared.plan.Kind.TheVariants as kind
 use Rattle.values.specs.declared.plan.Plan.{Plan}
 use Rattle.values.specs.declared.plan.PlanNode.{PlanNode}

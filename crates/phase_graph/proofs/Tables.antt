@@ -123,12 +123,12 @@ module _ (t t' : Table) (table : IsTable t) (st : IsStirred t t') where
 
 -- ---- a write
 
-module _ (t t' : Table) (table : IsTable t) (is_open : t.clock.in_phase ≡ true) (signal : ℕ) (code : Code) (number : ℕ) (w : IsWrittenIn t t' signal code number) where
+module _ (t t' : Table) (table : IsTable t) (is_early : t.clock.base < 2 ^ 62) (signal : ℕ) (code : Code) (number : ℕ) (w : IsWrittenIn t t' signal code number) where
   pub written_table : IsTable t'
   written_table = record {
     lawful = subst IsLawful (sym w.plan) table.lawful;
     still = (λ b. subst (λ (q : Plan). IsStill q.nodes t'.rows.items t'.readers t'.clock) (sym w.plan) w.still);
-    early = (λ p. let b = w.ticked.base in let e = table.early is_open in omega arith);
+    early = (λ p. let b = w.ticked.base in omega arith);
     ticks = (let b = w.ticked.base in let e = table.ticks in omega arith);
     good = subst (λ (q : Plan). IsGood q.nodes t'.rows.items) (sym w.plan) w.still.good;
     fits = subst (λ (q : Plan). IsWorkOf q.nodes t'.work) (sym w.plan) w.fits;
