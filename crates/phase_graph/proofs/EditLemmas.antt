@@ -63,6 +63,7 @@ ticked_table t t' pass index table open' same tick clock = subst IsTable (sym sa
           early = (λ p. let e = table.early open' in omega arith);
           ticks = (let e = table.ticks in omega arith);
           good = table.good;
+          named = table.named;
           fits = table.fits;
           owners = table.owners;
           is_full = full_later t.full t.clock.drawn t'.clock.drawn (omega arith) table.is_full;

@@ -10,7 +10,7 @@ use Rattle.sources.specs.declared.opening.Opened.{Opened}
 use Rattle.sources.specs.Bodies.{IsChange, IsCaused}
 use Rattle.sources.specs.Rows.{IsDerivedGood, IsGood}
 use Rattle.still_readers.specs.declared.readers.Readers.{Readers}
-use Rattle.still_readers.specs.Marking.{IsDarkened}
+use Rattle.still_readers.specs.Marking.{IsDarkened, written_row}
 use Rattle.still_readers.proofs.Lists.{at_within, within_at, which, one_at}
 use Rattle.still_readers.proofs.ReadersLemmas.{recorded_named}
 use Rattle.still_rows.specs.declared.clock.Clock.{Clock}
@@ -65,6 +65,12 @@ darkened_named nodes rows rows' dark named i node new at is d =
     let old = within_at rows i (omega arith) in
     let same = (dark.each i old.0 new old.1 is).same in
     same_body node old.0 new (ap (λ (z : Opened). z.body.reads.list) same) (ap (λ (z : Opened). z.body.cause) same) (named i node old.0 at old.1 d)
+
+-- a row is written, and what reads it is marked
+pub written_named : (nodes : List PlanNode) (rows rows' : List Opened) (k : ℕ) (was : Opened) (code version : ℕ) → slice_get rows k ≡ Some was → IsDarkened (set rows k (written_row was code version)) rows' → AreNamed nodes rows → AreNamed nodes rows'
+written_named nodes rows rows' k was code version at dark named =
+    let new = written_row was code version in
+    darkened_named nodes (set rows k new) rows' dark (set_named nodes rows k was new at (λ node here d one. same_body node was new refl refl one) named)
 
 -- memos run
 pub stepped_named : (nodes : List PlanNode) (rows rows' : List Opened) (readers readers' : Readers) (c c' : Clock) → IsGood nodes rows → IsStepped nodes rows rows' readers readers' c c' → AreNamed nodes rows → AreNamed nodes rows'

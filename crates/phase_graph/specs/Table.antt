@@ -15,6 +15,7 @@ use Rattle.values.specs.Plan.{IsLawful}
 use Rattle.values.specs.PlanValues.{is_derived, plan_value}
 use Rattle.values.specs.Reserved.{Reserve, room_of}
 use Rattle.store_fields.specs.declared.edit.Edit.{Edit}
+use Rattle.carried_rows.specs.Named.{AreNamed}
 use Rattle.sources.specs.declared.opening.Opened.{Opened}
 use Rattle.still_rows.specs.declared.clock.Clock.{Clock}
 use Rattle.sources.specs.Colours.{is_clean}
@@ -74,6 +75,8 @@ pub record IsTable (t : Table) : Type 0 where
   pub early : t.clock.in_phase ≡ true → t.clock.base < 2 ^ 62
   pub ticks : t.clock.base < 2 ^ 63
   pub good : IsGood t.plan.nodes t.rows.items
+  -- the row that a run was caused by is one that the expression names
+  pub named : AreNamed t.plan.nodes t.rows.items
   pub fits : IsWorkOf t.plan.nodes t.work
   pub owners : length t.live.items ≡ length t.plan.owners
   pub is_full : IsFullAt t.full t.clock.drawn
@@ -185,6 +188,8 @@ pub record IsWrittenIn (old new : Table) (signal : ℕ) (code : Code) (number : 
   pub ticked : IsTicked old.clock new.clock (Write signal code)
   pub drawn : number ≡ new.clock.drawn
   pub undone : unpacked (packed code) ≡ code
+  pub was : Opened
+  pub at : slice_get old.rows.items signal ≡ Some was
   pub written : (row : Opened) → slice_get old.rows.items signal ≡ Some row → IsDarkened (slice_set old.rows.items signal (written_row row (packed code) (now_of new.clock))) new.rows.items
 
 -- the row keeps its value as this word or not
@@ -242,6 +247,7 @@ pub record AreFirstRows (nodes : List PlanNode) (codes : List Code) (rs : List O
   pub roomy : IsRoomy nodes rs
   pub of_plan : IsReadersOf nodes readers
   pub enrolled : IsEnrolled nodes rs readers
+  pub named : AreNamed nodes rs
   pub given : (i : ℕ) (node : PlanNode) (row : Opened) → slice_get nodes i ≡ Some node → slice_get rs i ≡ Some row → is_derived node.kind ≡ false → slice_get codes i ≡ Some (unpacked row.code)
   pub never : (i : ℕ) (node : PlanNode) (row : Opened) → slice_get nodes i ≡ Some node → slice_get rs i ≡ Some row → is_derived node.kind ≡ true → row.body.cause ≡ None
 
