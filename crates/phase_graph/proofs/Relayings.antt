@@ -1,10 +1,9 @@
 -- A table that took the rows of another over.
-use Rattle.std.proofs.Common.{◌≡◌, ℕ, ◌+◌, ◌≤◌, ◌<◌, ◌^◌, Bool, true, false, Option, Some, None, List, [], length, slice_get, refl, sym, ap, subst, ◌∙◌, arith}
+use Rattle.std.proofs.Common.{◌≡◌, ℕ, ◌+◌, ◌<◌, ◌^◌, false, Option, Some, List, [], length, slice_get, sym, ap, subst, ◌∙◌, arith}
 use Rattle.values.specs.declared.code.Code.TheVariants.{Empty}
 use Rattle.values.specs.declared.plan.Plan.{Plan}
 use Rattle.values.specs.declared.plan.PlanNode.{PlanNode}
 use Rattle.values.specs.Packing.{packed}
-use Rattle.values.specs.PlanValues.{is_derived}
 use Rattle.values.specs.Reserved.{Reserve}
 use Rattle.values.proofs.PlanValuesLemmas.{lawful_back}
 use Rattle.store_fields.specs.declared.edit.Edit.{Edit}
@@ -150,10 +149,11 @@ module _ (x : GraphState) (r : Relaying) (g l old first t : Table) (lists : List
 
     pub relay_rows : (places later : List Place) → r.to ≡ rows_to places later → IsCarried places later x.plan.nodes r.plan.nodes → length places ≡ length x.plan.nodes → length later ≡ length r.plan.nodes → (fresh : List Opened) × AreFresh r.plan.nodes fresh × GoOver places later x.rows fresh t.rows.items
     relay_rows places later is carried long long_later = (
-        l.rows.items,
-        subst (λ (q : Plan). AreFresh q.nodes l.rows.items) laters (fresh_all l.plan.nodes l.rows.items laid.fresh),
-        subst (λ (q : List Opened). GoOver places later q l.rows.items t.rows.items) (ap (λ (q : GraphState). q.rows) view)
-          (went_over places later x.plan.nodes r.plan.nodes to g.rows.items l.rows.items t.rows.items (tos ∙ is) carried long_later (laid.fresh.counted ∙ ap (λ (q : Plan). length q.nodes) laters) taken_so.filled taken_so.moved taken_so.stayed))
+      l.rows.items,
+      subst (λ (q : Plan). AreFresh q.nodes l.rows.items) laters (fresh_all l.plan.nodes l.rows.items laid.fresh),
+      subst (λ (q : List Opened). GoOver places later q l.rows.items t.rows.items) (ap (λ (q : GraphState). q.rows) view)
+          (went_over places later x.plan.nodes r.plan.nodes to g.rows.items l.rows.items t.rows.items (tos ∙ is) carried long_later (laid.fresh.counted ∙ ap (λ (q : Plan). length q.nodes) laters) taken_so.filled taken_so.moved taken_so.stayed),
+    )
 
     pub relay_empty : (later : ℕ) (row : Opened) → IsNoTarget r.to later → slice_get t.rows.items later ≡ Some row → (row.code ≡ packed Empty) × (row.version ≡ 0)
     relay_empty later row none at = stays_empty l.plan.nodes to l.rows.items t.rows.items laid.fresh taken_so.stayed later row (subst (λ (q : List (Option ℕ)). IsNoTarget q later) (sym tos) none) at

@@ -84,6 +84,7 @@ impl Graph {
         ensures drawn { self.new.drawn ≡ 0 }
         ensures entries { self.new.entries ≡ [] }
         ensures edits { self.new.edits ≡ [] }
+        ensures room { self.new.edit_room ≡ 0 }
         ensures rows { (old new : List Place) → relaid.to ≡ rows_to old new → IsCarried old new self.old.plan.nodes relaid.plan.nodes → length old ≡ length self.old.plan.nodes → length new ≡ length relaid.plan.nodes → (fresh : List OpenedValue) × AreFresh relaid.plan.nodes fresh × GoOver old new self.old.rows fresh self.new.rows }
         ensures empty { (later : ℕ) (row : OpenedValue) → IsNoTarget relaid.to later → slice_get self.new.rows later ≡ Some row → (row.code ≡ packed code.Empty) × (row.version ≡ 0) }
     {

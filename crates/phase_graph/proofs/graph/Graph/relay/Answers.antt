@@ -1,9 +1,9 @@
-use Rattle.std.proofs.Common.{◌≤◌, List, length, sym, ap, subst, ◌∙◌, arith}
+use Rattle.std.proofs.Common.{List, length, sym, ap, ◌∙◌, arith}
 use Rattle.values.specs.declared.plan.Plan.{Plan}
 use Rattle.values.specs.Reserved.{Reserve}
 use Rattle.still_readers.proofs.Lists.{not_both}
 use Rattle.store_fields.specs.declared.edit.Edit.{Edit}
-use Rattle.phase_graph.specs.Table.{edit_lists, HaveRoom}
+use Rattle.phase_graph.specs.Table.{edit_lists}
 use Rattle.phase_graph.proofs.Relayings.{relay_targets, relay_table, relay_rows, relay_empty, relay_closed, relay_plan, none_have_room}
 use Rattle.phase_graph.proofs.graph.Graph.relay.Goals as goal
 
