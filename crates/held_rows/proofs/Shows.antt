@@ -19,10 +19,11 @@ use Rattle.plain_evaluation.specs.Changed.{store_in, store_of}
 use Rattle.plain_evaluation.specs.Fits.{keys_differ, RowsFit}
 use Rattle.plain_evaluation.specs.Held.{Holding, nothing, value, stored, arrived, Held, holding_of, is_live, value_in, rows_in, value_held, rows_held}
 use Rattle.plain_evaluation.specs.Keyed.{is_keyed}
-use Rattle.plain_evaluation.specs.Origins.{source, Origin, told_of, origin_in}
+use Rattle.plain_evaluation.specs.Origins.{source, Origin, told_of, origin_of, origin_in}
 use Rattle.plain_evaluation.specs.Place.{Place, place_at, outside}
 use Rattle.plain_evaluation.specs.Scratch.{seen_from, value_said, scratch_in}
-use Rattle.plain_evaluation.specs.Written.{State, state_of, RowAround, Says, given, loaded, derived, kind_said, Written, place_of, key_in, written_in}
+use Rattle.plain_evaluation.specs.Sound.{Among}
+use Rattle.plain_evaluation.specs.Written.{State, state_of, RowAround, Says, given, loaded, derived, kind_said, Written, place_of, written_in}
 use Rattle.plain_evaluation.proofs.Differ.{places_are_apart}
 use Rattle.plain_evaluation.proofs.Fitting.{rows_of_held}
 use Rattle.plain_evaluation.proofs.Makes.{makes_sense}
@@ -213,16 +214,19 @@ module _ (component : Component) (state : HeldState) (kept : IsKept component) (
 
       -- ---- signals
 
+      value_line : (id : ℕ) (code : Code) → holding_of held id ≡ value code → (n : ℕ) (w : Written) → slice_get (rows_of ws) n ≡ Some w → w.id ≡ id → values n ≡ unwrap_or (last_write es n) code
+      value_line id code has n w at id_is =
+          let among = row_among ws n w at in
+          let told : told_of w.says ≡ source kind.Signal = sym (ap (λ (x : Origin). x.told) (have_origins component seen kept fits w among)) ∙ ap (λ (m : ℕ). (origin_in component m).told) id_is ∙ value_told component kept state is id (ap form_of has) in
+          let says = said w.says kind.Signal told in
+          let so : GivenSo seen w.id w.scene.row (given kind.Signal says.0) = subst (λ (s : Says). GivenSo seen w.id w.scene.row s) says.1 (are_given component seen kept w among) in
+          let code_is : says.0 ≡ code = so.1 ∙ ap (value_held held) id_is ∙ ap value_in has in
+          given_row n w kind.Signal says.0 at says.1 (inl refl) ∙ ap (unwrap_or (last_write es n)) code_is
+
       value_right : (id : ℕ) (code : Code) → holding_of held id ≡ value code → (n : ℕ) → row_of places (place_at id None) ≡ Some n → values n ≡ unwrap_or (last_write es n) code
       value_right id code has n found =
           let one = map_at place_of (rows_of ws) n (place_at id None) (row_got places (place_at id None) n found) in
-          let among = row_among ws n one.0 one.1 in
-          let id_is : one.0.id ≡ id = ap (λ (p : Place). p.id) one.2 in
-          let told : told_of one.0.says ≡ source kind.Signal = sym (ap (λ (x : Origin). x.told) (have_origins component seen kept fits one.0 among)) ∙ ap (λ (m : ℕ). (origin_in component m).told) id_is ∙ value_told component kept state is id (ap form_of has) in
-          let says = said one.0.says kind.Signal told in
-          let so : GivenSo seen one.0.id one.0.scene.row (given kind.Signal says.0) = subst (λ (s : Says). GivenSo seen one.0.id one.0.scene.row s) says.1 (are_given component seen kept one.0 among) in
-          let code_is : says.0 ≡ code = so.1 ∙ ap (value_held held) id_is ∙ ap value_in has in
-          given_row n one.0 kind.Signal says.0 one.1 says.1 (inl refl) ∙ ap (unwrap_or (last_write es n)) code_is
+          value_line id code has n one.0 one.1 (ap (λ (p : Place). p.id) one.2)
 
       -- ---- fields
 
@@ -230,29 +234,41 @@ module _ (component : Component) (state : HeldState) (kept : IsKept component) (
         was : store_of held id ≡ Some store
         was = ap store_in has
 
-        field_right : (place : ℕ) (row : Row) (field : ℕ) (code : Code) → slice_get store.rows place ≡ Some row → slice_get row.fields field ≡ Some code → field < store.width → (n : ℕ) → row_of places (place_at (2 + id + field) (Some row.key)) ≡ Some n → values n ≡ unwrap_or (last_write es n) code
-        field_right place row field code row_at code_at lt n found =
-            let one = map_at place_of (rows_of ws) n (place_at (2 + id + field) (Some row.key)) (row_got places (place_at (2 + id + field) (Some row.key)) n found) in
-            let among = row_among ws n one.0 one.1 in
-            let origin = have_origins component seen kept fits one.0 among in
-            let id_is : one.0.id ≡ 2 + id + field = ap (λ (p : Place). p.id) one.2 in
-            let key_is : key_in one.0.scene ≡ Some row.key = ap (λ (p : Place). p.key) one.2 in
+        -- what is told of the line of a field
+        field_line : (field : ℕ) (w : Written) → Among ws w → w.id ≡ 2 + id + field → field < store.width → (told_of w.says ≡ source kind.Field) × (option_map (λ (x : RowAround). x.store) w.scene.row ≡ Some id)
+        field_line field w among id_is lt =
+            let origin : origin_in component (2 + id + field) ≡ origin_of w = sym (ap (origin_in component) id_is) ∙ have_origins component seen kept fits w among in
             let text = field_told component kept state is id store field was lt in
-            let told : told_of one.0.says ≡ source kind.Field = sym (ap (λ (x : Origin). x.told) origin) ∙ ap (λ (m : ℕ). (origin_in component m).told) id_is ∙ text.0 in
-            let says = said one.0.says kind.Field told in
-            let so : IsField seen one.0.id one.0.scene.row says.0 = subst (λ (s : Says). GivenSo seen one.0.id one.0.scene.row s) says.1 (are_given component seen kept one.0 among) in
-            let stores : Some so.store ≡ Some id = sym (ap (λ (r : Option RowAround). option_map (λ (x : RowAround). x.store) r) so.around_is) ∙ sym (ap (λ (x : Origin). x.around.store) origin) ∙ ap (λ (m : ℕ). (origin_in component m).around.store) id_is ∙ text.1 in
+            (sym (ap (λ (x : Origin). x.told) origin) ∙ text.0, sym (ap (λ (x : Origin). x.around.store) origin) ∙ text.1)
+
+        -- a code of this field, in the row with this key, is that of the row
+        field_same : (place : ℕ) (row : Row) (field : ℕ) (code : Code) (own : ℕ) (around : Option RowAround) (other : Code) → IsField seen own around other → own ≡ 2 + id + field → option_map (λ (x : RowAround). x.store) around ≡ Some id → option_map (λ (x : RowAround). x.key) around ≡ Some row.key → slice_get store.rows place ≡ Some row → slice_get row.fields field ≡ Some code → other ≡ code
+        field_same place row field code own around other so id_is stores keys row_at code_at =
+            let store_here : Some so.store ≡ Some id = sym (ap (λ (r : Option RowAround). option_map (λ (x : RowAround). x.store) r) so.around_is) ∙ stores in
             let store_is : so.store ≡ id = cc in
-            let field_is : so.field ≡ field = (let a = so.id_is in omega arith) in
-            let keys : Some so.row.key ≡ Some row.key = sym (ap (λ (r : Option RowAround). option_map (λ (x : RowAround). x.key) r) so.around_is) ∙ key_is in
-            let key_same : so.row.key ≡ row.key = cc in
+            let key_here : Some so.row.key ≡ Some row.key = sym (ap (λ (r : Option RowAround). option_map (λ (x : RowAround). x.key) r) so.around_is) ∙ keys in
+            let key_is : so.row.key ≡ row.key = cc in
+            let field_is : so.field ≡ field = (let e = so.id_is in omega arith) in
             let held_rows : rows_held held id ≡ store.rows = ap rows_in has in
             let differ : keys_differ store.rows ≡ true = ap keys_differ (sym held_rows) ∙ is.fits.keys id in
             let there : slice_get store.rows so.place ≡ Some so.row = ap (λ (rs : List Row). slice_get rs so.place) (sym held_rows ∙ ap (rows_held held) (sym store_is)) ∙ so.row_at in
-            let row_is : so.row ≡ row = same_row store.rows so.place place so.row row differ there row_at key_same in
-            let codes : Some says.0 ≡ Some code = sym so.code_at ∙ (λ i. slice_get (row_is i).fields (field_is i)) ∙ code_at in
-            let code_is : says.0 ≡ code = cc in
-            given_row n one.0 kind.Field says.0 one.1 says.1 (inr refl) ∙ ap (unwrap_or (last_write es n)) code_is
+            let row_is : so.row ≡ row = same_row store.rows so.place place so.row row differ there row_at key_is in
+            let codes : Some other ≡ Some code = sym so.code_at ∙ (λ i. slice_get (row_is i).fields (field_is i)) ∙ code_at in
+            cc
+
+        line_right : (place : ℕ) (row : Row) (field : ℕ) (code : Code) → slice_get store.rows place ≡ Some row → slice_get row.fields field ≡ Some code → field < store.width → (n : ℕ) (w : Written) → slice_get (rows_of ws) n ≡ Some w → place_of w ≡ place_at (2 + id + field) (Some row.key) → values n ≡ unwrap_or (last_write es n) code
+        line_right place row field code row_at code_at lt n w at place_is =
+            let among = row_among ws n w at in
+            let line = field_line field w among (ap (λ (p : Place). p.id) place_is) lt in
+            let says = said w.says kind.Field line.0 in
+            let so : IsField seen w.id w.scene.row says.0 = subst (λ (s : Says). GivenSo seen w.id w.scene.row s) says.1 (are_given component seen kept w among) in
+            let code_is : says.0 ≡ code = field_same place row field code w.id w.scene.row says.0 so (ap (λ (p : Place). p.id) place_is) line.1 (ap (λ (p : Place). p.key) place_is) row_at code_at in
+            given_row n w kind.Field says.0 at says.1 (inr refl) ∙ ap (unwrap_or (last_write es n)) code_is
+
+        field_right : (place : ℕ) (row : Row) (field : ℕ) (code : Code) → slice_get store.rows place ≡ Some row → slice_get row.fields field ≡ Some code → field < store.width → (n : ℕ) → row_of places (place_at (2 + id + field) (Some row.key)) ≡ Some n → values n ≡ unwrap_or (last_write es n) code
+        field_right place row field code row_at code_at lt n found =
+            let one = map_at place_of (rows_of ws) n (place_at (2 + id + field) (Some row.key)) (row_got places (place_at (2 + id + field) (Some row.key)) n found) in
+            line_right place row field code row_at code_at lt n one.0 one.1 one.2
 
         fields_alike : (first : ℕ) (key : Code) (codes : List Code) → ((n : ℕ) (code : Code) → slice_get codes n ≡ Some code → shown_at places values (first + n) (Some key) code ≡ written_at o es (first + n) (Some key) code) → fields_shown places values first key codes ≡ fields_from o es first key codes
         fields_alike first key [] each = refl
