@@ -1,5 +1,5 @@
 -- The rows of a store, as their fields take what is shown.
-use Rattle.std.proofs.Common.{◌≡◌, ℕ, zero, suc, ◌+◌, ◌<◌, not, cond, nat_lt, Bool, true, false, List, [], ◌∷◌, map, length, get_or, set, Option, Some, None, slice_get, position, refl, sym, ap, subst, ◌∙◌, arith}
+use Rattle.std.proofs.Common.{◌≡◌, ℕ, zero, suc, ◌+◌, not, cond, nat_lt, Bool, true, false, List, [], ◌∷◌, length, get_or, set, Option, Some, None, slice_get, refl, sym, ap, subst, ◌∙◌, arith}
 use Rattle.std.specs.List.{All, IsDistinct, prefix_len}
 use Rattle.std.specs.Option.{option_map_or}
 use Rattle.std.proofs.lemmas.Bool.Decides.{nat_tests}
@@ -10,7 +10,7 @@ use Rattle.values.specs.declared.code.Code.TheVariants.{Empty}
 use Rattle.values.specs.Packing.{IsPacked}
 use Rattle.values.specs.Evaluation.{is_same}
 use Rattle.store_fields.specs.declared.row.Row.{Row}
-use Rattle.store_fields.specs.Edits.{Edited, KeyedRows, keys, place_of, edited, made, with_rows, with_field, field_set_at, field_set}
+use Rattle.store_fields.specs.Edits.{keys, place_of, edited, made, with_field, field_set_at, field_set}
 use Rattle.store_fields.specs.declared.edit.Verdict.TheVariants.{Absent}
 use Rattle.store_fields.proofs.KeyLemmas.{same_itself, apart_flips}
 use Rattle.store_fields.proofs.RowLemmas.{apart_at}

@@ -1,4 +1,4 @@
-use Rattle.std.proofs.Common.{◌≡◌, ◌+◌, ◌<◌, ◌^◌, ℕ, suc, List, Some, Option, length, get_or, slice_get, set, refl, sym, ap, subst, ◌∙◌, arith}
+use Rattle.std.proofs.Common.{◌≡◌, ◌+◌, ◌<◌, ℕ, suc, List, Option, length, get_or, set, sym, ap, subst, ◌∙◌, arith}
 use Rattle.store_fields.specs.Edits.{KeyedRows}
 use Rattle.sources.specs.Rows.{value_in}
 use Rattle.plain_evaluation.specs.Changed.{store_in, store_of, with_holding}

@@ -1,4 +1,4 @@
-use Rattle.std.proofs.Common.{◌≡◌, ◌+◌, ◌<◌, ℕ, suc, Some, length, slice_get, set, refl, sym, ap, ◌∙◌, arith}
+use Rattle.std.proofs.Common.{◌≡◌, ◌+◌, ◌<◌, ℕ, suc, length, set, refl, sym, ap, ◌∙◌, arith}
 use Rattle.values.specs.declared.code.Code.{Code}
 use Rattle.values.specs.declared.code.Code.TheVariants.{Empty}
 use Rattle.store_fields.specs.declared.row.Row.{Row}

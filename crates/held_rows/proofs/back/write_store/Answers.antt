@@ -1,4 +1,4 @@
-use Rattle.std.proofs.Common.{◌≡◌, ◌+◌, ◌<◌, ℕ, suc, List, [], Some, length, get_or, slice_get, set, sym, ap, ◌∙◌, arith}
+use Rattle.std.proofs.Common.{◌≡◌, ◌+◌, ◌<◌, ℕ, suc, List, [], Some, length, get_or, slice_get, set, ap, ◌∙◌, arith}
 use Rattle.values.specs.declared.code.Code.TheVariants.{Empty}
 use Rattle.store_fields.specs.declared.row.Row.{Row}
 use Rattle.store_fields.specs.Edits.{KeyedRows, with_rows}
