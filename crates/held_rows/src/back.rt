@@ -1,15 +1,23 @@
 //! Held state takes what the rows show.
-ghost use Rattle.std.specs.Prelude.{◌≡◌, ℕ, slice_get, Some};
+ghost use Rattle.std.specs.Prelude.{◌≡◌, ◌<◌, ◌+◌, ℕ, map, slice_get, slice_set, Some, IsSome};
+ghost use Rattle.std.specs.Option.{option_copied};
 ghost use Rattle.values.specs.Packing.{IsPacked};
+ghost use Rattle.store_fields.specs.declared.row.Row.{Row as RowValue};
+ghost use Rattle.store_fields.specs.Edits.{with_rows};
 ghost use Rattle.sources.specs.declared.opening.Opened.{Opened as OpenedValue};
-ghost use Rattle.sources.specs.Rows.{value_in};
+ghost use Rattle.sources.specs.Rows.{code_in, value_in};
+ghost use Rattle.plain_evaluation.specs.Changed.{signal_of, store_of, with_holding};
+ghost use Rattle.plain_evaluation.specs.Held.{holding_of};
 ghost use Rattle.held_state.specs.State.{IsOf, with_held};
-ghost use Rattle.held_rows.specs.Shown.{held_shown};
+ghost use Rattle.held_rows.specs.Shown.{row_shown, holding_shown, held_shown};
+ghost use Rattle.held_rows.specs.Writing.{ArePacked, HasIds, with_field_shown};
 
 use component_items::Component;
 use held_state::Held;
 use node_names::Names;
 use sources::Opened;
+use store_fields::Rows;
+use values::Code;
 
 /// Gives each signal and each field of held state the value of its row. It takes the time of what is held, and no
 /// memory.
@@ -23,4 +31,108 @@ pub fn write_back(held: &mut Held, component: &Component, names: &Names, rows: &
     for id in 0..held.count() {
         write_holding(held, names, rows, id as u32);
     }
+}
+
+/// The same of one id.
+fn write_holding(held: &mut Held, names: &Names, rows: &[Opened], id: u32)
+    requires packed { ArePacked rows.now }
+    requires ids { HasIds id (store_of held.old.held id) }
+    ensures { held.new ≡ with_held held.old (with_holding held.old.held id (holding_shown names.now (value_in rows.now) id (holding_of held.old.held id))) }
+{
+    if held.value(id).is_some() {
+        write_signal(held, names, rows, id);
+    } else if let Some(store) = held.store(id) {
+        write_store(store, names, rows, id);
+    }
+}
+
+/// Gives the live signal with the id the value of its row, where it has one.
+fn write_signal(held: &mut Held, names: &Names, rows: &[Opened], id: u32)
+    requires packed { ArePacked rows.now }
+    requires signal { IsSome (signal_of held.old.held id) }
+    ensures { held.new ≡ with_held held.old (with_holding held.old.held id (holding_shown names.now (value_in rows.now) id (holding_of held.old.held id))) }
+{
+    if let Some(row) = names.find(id) {
+        held.put(id, row_value(rows, row));
+    }
+}
+
+/// Gives each field of each row of the store with the id the value of its row of the plan.
+fn write_store(store: &mut Rows, names: &Names, rows: &[Opened], id: u32)
+    requires packed { ArePacked rows.now }
+    requires ids { HasIds id (Some store.old) }
+    ensures { store.new ≡ with_rows store.old (map (row_shown names.now (value_in rows.now) id) store.old.rows) }
+{
+    for place in 0..store.count() {
+        write_row(store, names, rows, id, place);
+    }
+}
+
+/// The same of the row at one place.
+fn write_row(store: &mut Rows, names: &Names, rows: &[Opened], id: u32, place: u32)
+    requires packed { ArePacked rows.now }
+    requires ids { HasIds id (Some store.old) }
+    ensures { (row : RowValue) → slice_get store.old.rows place ≡ Some row → store.new ≡ with_rows store.old (slice_set store.old.rows place (row_shown names.now (value_in rows.now) id row)) }
+{
+    let _count = store.count();
+    let Some(row) = store.row(place) else {
+        return;
+    };
+    let key = row.key;
+    let count = row.fields.len();
+    write_fields(store, names, rows, id, key, count);
+}
+
+/// The same of all fields of the row with the key. Each row has so many.
+fn write_fields(store: &mut Rows, names: &Names, rows: &[Opened], id: u32, key: Code, count: usize)
+    requires packed { ArePacked rows.now }
+    requires ids { HasIds id (Some store.old) }
+    requires count { count ≡ store.old.width }
+    ensures { (place : ℕ) (row : RowValue) → slice_get store.old.rows place ≡ Some row → row.key ≡ key → store.new ≡ with_rows store.old (slice_set store.old.rows place (row_shown names.now (value_in rows.now) id row)) }
+{
+    let _count = store.count();
+    for field in 0..count {
+        write_field(store, names, rows, id, key, field as u32);
+    }
+}
+
+/// The same of one field of the row with the key.
+fn write_field(store: &mut Rows, names: &Names, rows: &[Opened], id: u32, key: Code, field: u32)
+    requires packed { ArePacked rows.now }
+    requires ids { HasIds id (Some store.old) }
+    requires within { field < store.old.width }
+    ensures { store.new ≡ with_rows store.old (with_field_shown names.now (value_in rows.now) (2 + id + field) key field store.old.rows) }
+{
+    if let Some(row) = names.find_field(2 + id + field, key) {
+        store.set_field(key, field, row_value(rows, row));
+    }
+}
+
+/// The value of a row of the plan, and nothing past the end.
+fn row_value(rows: &[Opened], row: u32) -> Code
+    requires { ArePacked rows.now }
+    ensures { result ≡ value_in rows.now row }
+{
+    match Code::unpack(row_word(rows, row)) {
+        Some(code) => code,
+        None => Code::Empty,
+    }
+}
+
+/// The same, packed.
+fn row_word(rows: &[Opened], row: u32) -> u64
+    requires { ArePacked rows.now }
+    ensures word { result ≡ code_in rows.now row }
+    ensures is_packed { IsPacked result }
+{
+    match row_at(rows, row) {
+        Some(kept) => kept.code,
+        None => 0,
+    }
+}
+
+fn row_at(rows: &[Opened], row: u32) -> Option<&Opened>
+    ensures { option_copied result ≡ slice_get rows.now row }
+{
+    rows.get(row as usize)
 }

@@ -1,3 +1,4 @@
+pub mod Holds
 pub mod State
 pub mod Built
 pub mod Seen

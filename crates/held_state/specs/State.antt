@@ -6,6 +6,7 @@ use Rattle.plain_evaluation.specs.Held.{Held, first_held}
 use Rattle.plain_evaluation.specs.Fits.{Fits}
 use Rattle.plain_evaluation.specs.Killed.{Going, none_going, going_with, OwnersFit}
 use Rattle.plain_evaluation.specs.Changed.{StoresFit}
+use Rattle.held_state.specs.Holds.{HoldsAsSaid}
 
 -- the state, and what goes with each owner, by number
 pub record HeldState : Type 0 where
@@ -32,3 +33,4 @@ pub record IsOf (component : Component) (state : HeldState) : Type 0 where
   pub fits : Fits component state.held
   pub stores : StoresFit component state.held
   pub owners : OwnersFit component state.held
+  pub holds : HoldsAsSaid component state.held

@@ -2,5 +2,6 @@
 #![tactic(auto)]
 
 mod table;
+mod walk;
 
 pub use table::IdOwners;

@@ -1,9 +1,12 @@
 //! The table.
 ghost use Rattle.std.specs.Prelude.{◌≡◌, IfOk};
+ghost use Rattle.component_items.specs.declared.component.Component.{Component as ComponentValue};
+ghost use Rattle.component_items.specs.Kept.{IsKept};
 ghost use Rattle.plan_meaning.specs.Told.{owner_of_id};
 ghost use Rattle.id_owners.specs.Table.{owners_by_id};
 
-use component_items::{Component, Item};
+use crate::walk::put_owners;
+use component_items::Component;
 use std::alloc::Global;
 use std::marker::Model;
 use values::{NoMemory, Numbers};
@@ -13,6 +16,14 @@ use values::{NoMemory, Numbers};
 #[derive(Drop)]
 pub struct IdOwners {
     owners: Numbers,
+}
+
+impl Model for IdOwners {
+    ghost use Rattle.std.specs.Prelude.{List, ℕ};
+
+    ghost Value = { List ℕ };
+
+    ghost view = { λ o. o.owners };
 }
 
 impl IdOwners {

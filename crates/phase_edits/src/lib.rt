@@ -4,6 +4,7 @@
 mod disposals;
 mod edits;
 pub mod laws;
+mod one;
 
 pub use disposals::fold_disposals;
 pub use edits::fold_edits;

@@ -15,7 +15,8 @@ use Rattle.run_history.specs.Calls.{Call, edit, Calls}
 use Rattle.run_history.proofs.Cut.{is_yes, is_no}
 use Rattle.run_history.proofs.Steps.{nothing_goes, one_goes}
 use Rattle.phase_graph.specs.declared.table.Table.{Table}
-use Rattle.phase_graph.specs.Table.{open_seen, IsTable, IsFilled, MakesEdit, edits_with}
+use Rattle.phase_graph.specs.Graph.{edits_with}
+use Rattle.phase_graph.specs.Table.{open_seen, IsTable, IsFilled, MakesEdit}
 use Rattle.phase_graph.specs.Way.{ShowsAs, IsOnWay}
 use Rattle.phase_graph.proofs.Blocks.{numbered_append, edits_append}
 use Rattle.phase_graph.proofs.Quiet.{IsQuiet, quiet_shown, quiet_current}
@@ -62,6 +63,7 @@ ticked_table t t' pass index table open' same tick clock = subst IsTable (sym sa
           early = (λ p. let e = table.early open' in omega arith);
           ticks = (let e = table.ticks in omega arith);
           good = table.good;
+          named = table.named;
           fits = table.fits;
           owners = table.owners;
           is_full = full_later t.full t.clock.drawn t'.clock.drawn (omega arith) table.is_full;

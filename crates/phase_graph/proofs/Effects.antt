@@ -1,6 +1,5 @@
 -- The call on one effect, of a table.
-use Rattle.std.proofs.Common.{◌≡◌, ◌≢◌, ◌⊎◌, inl, inr, ⊎_elim, ℕ, ◌+◌, ◌≤◌, ◌<◌, ◌^◌, Bool, true, false, Result, Ok, Err, IfOk, OnOk, OnErr, Option, Some, None, List, slice_get, set, length, refl, sym, ap, subst, ◌∙◌, arith}
-use Rattle.values.specs.declared.code.Code.{Code}
+use Rattle.std.proofs.Common.{◌≡◌, ◌≢◌, ◌⊎◌, inl, inr, ⊎_elim, ℕ, ◌+◌, ◌≤◌, ◌<◌, true, false, Result, Ok, Err, IfOk, OnOk, OnErr, Option, Some, None, List, slice_get, set, length, refl, sym, ap, subst, ◌∙◌, arith}
 use Rattle.values.specs.declared.plan.Kind.TheVariants as kind
 use Rattle.values.specs.declared.plan.Plan.{Plan}
 use Rattle.values.specs.declared.plan.PlanNode.{PlanNode}
@@ -21,9 +20,11 @@ use Rattle.still_effects.specs.declared.effect.Effect.{Effect}
 use Rattle.still_effects.specs.declared.effect.Effect.TheVariants as effect
 use Rattle.still_effects.specs.Effects.{IsEffect, EndedAs, FullAs}
 use Rattle.still_effects.proofs.EffectLemmas.{effect_row}
+use Rattle.carried_rows.specs.Named.{AreNamed}
 use Rattle.phase_graph.specs.declared.table.Table.{Table}
 use Rattle.phase_graph.specs.Table.{true_count, most_drawn, IsFullAt, IsTable, IsKept}
 use Rattle.phase_graph.specs.Pumping.{IsTried, IsDone, IsShort, IsLeft, CameTo}
+use Rattle.phase_graph.proofs.Naming.{ended_named, full_named}
 use Rattle.phase_graph.proofs.Tables.{most_above, full_later, owners_few, long_same, drawn_few}
 
 -- ---- what a call on the rows ensures, of the table
@@ -103,7 +104,7 @@ short_drawn t t' row h = full_drawn t.plan.nodes t.rows.items t'.rows.items t.re
 
 -- ---- what holds of a table is kept
 
-module _ (t t' : Table) (row : ℕ) (table : IsTable t) (is_open : t.clock.in_phase ≡ true) (h : IsTried t t' row) (d : IsDrawn t.clock t'.clock) where
+module _ (t t' : Table) (row : ℕ) (table : IsTable t) (is_open : t.clock.in_phase ≡ true) (h : IsTried t t' row) (d : IsDrawn t.clock t'.clock) (named : AreNamed t.plan.nodes t'.rows.items) where
   live_same : true_count t'.live.items ≡ true_count t.live.items
   live_same = ap (λ v. true_count v.items) h.live
 
@@ -114,6 +115,7 @@ module _ (t t' : Table) (row : ℕ) (table : IsTable t) (is_open : t.clock.in_ph
     early = (λ p. let b = h.base in let e = table.early is_open in omega arith);
     ticks = (let b = h.base in let e = table.ticks in omega arith);
     good = subst (λ (q : Plan). IsGood q.nodes t'.rows.items) (sym h.plan) h.still.good;
+    named = subst (λ (q : Plan). AreNamed q.nodes t'.rows.items) (sym h.plan) named;
     fits = subst (λ (q : Plan). IsWorkOf q.nodes t'.work) (sym h.plan) h.fits;
     owners = ap (λ v. length v.items) h.live ∙ table.owners ∙ ap (λ (q : Plan). length q.owners) (sym h.plan);
     is_full = subst (λ (f : Option ℕ). IsFullAt f t'.clock.drawn) (sym h.full) (full_later t.full t.clock.drawn t'.clock.drawn d.grows table.is_full);
@@ -131,8 +133,8 @@ module _ (t t' : Table) (row : ℕ) (table : IsTable t) (is_open : t.clock.in_ph
   tried_kept = record { table = tried_table; plan = h.plan; base = h.base; in_phase = h.in_phase ∙ sym is_open }
 
 pub came_kept : (t t' : Table) (row : ℕ) (r : Result Effect Full) → IsTable t → t.clock.in_phase ≡ true → CameTo t t' row r → IsKept t t'
-came_kept t t' row (Ok came) table is_open h = tried_kept t t' row table is_open h.tried (done_drawn t t' row came h)
-came_kept t t' row (Err why) table is_open h = tried_kept t t' row table is_open h.tried (short_drawn t t' row h)
+came_kept t t' row (Ok came) table is_open h = tried_kept t t' row table is_open h.tried (done_drawn t t' row came h) (ended_named t.plan.nodes t.rows.items t'.rows.items t.readers t'.readers t.clock t'.clock row came table.good h.ended table.named)
+came_kept t t' row (Err why) table is_open h = tried_kept t t' row table is_open h.tried (short_drawn t t' row h) (full_named t.plan.nodes t.rows.items t'.rows.items t.readers t'.readers t.clock t'.clock row table.good h.stopped table.named)
 
 -- ---- how many numbers are drawn
 

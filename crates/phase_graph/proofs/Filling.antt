@@ -1,6 +1,6 @@
 -- The entry of a number that was held for a run says now that the effect ran.
-use Rattle.std.proofs.Common.{◌≡◌, ◌⊎◌, inl, inr, ⊎_elim, ℕ, ◌+◌, zero, suc, cond, Bool, true, false, Option, Some, None, List, [], ◌∷◌, ◌++◌, drop, length, slice_get, refl, sym, ap, subst, ◌∙◌, arith}
-use Rattle.std.specs.Prelude.{nat_eq, filter_map, unwrap_or, count_by}
+use Rattle.std.proofs.Common.{◌≡◌, ◌⊎◌, inl, inr, ℕ, ◌+◌, cond, Bool, true, false, Option, Some, None, List, [], ◌∷◌, ◌++◌, drop, length, refl, sym, ap, subst, ◌∙◌}
+use Rattle.std.specs.Prelude.{nat_eq, filter_map, unwrap_or}
 use Rattle.std.specs.List.{cons_option, last_or}
 use Rattle.std.specs.Option.{option_or}
 use Rattle.std.proofs.lemmas.List.Elements.{filter_map-append}
@@ -12,10 +12,10 @@ use Rattle.values.specs.declared.plan.Noted.{Noted}
 use Rattle.values.specs.PlanValues.{plan_value}
 use Rattle.run_meaning.specs.Words.{In}
 use Rattle.run_meaning.specs.Opened.{Opened, opening_code}
-use Rattle.run_meaning.specs.Entries.{fact_at, written_of, changed_of, ran_of, last_ran, disposed_by, disposed_in}
+use Rattle.run_meaning.specs.Entries.{fact_at, written_of, changed_of, ran_of, disposed_by, disposed_in}
 use Rattle.run_meaning.specs.Merge.{changed_to, DiffersFrom, AllDiffer}
 use Rattle.run_meaning.specs.Told.{IsCurrent}
-use Rattle.run_history.specs.Going.{Start, Going, opened_at, note, all_are, new_value_of, latest_code, plain_code, shown_number, last_value, IsDead, is_edit_by, edits_by, EntryFits, Goes}
+use Rattle.run_history.specs.Going.{Start, opened_at, note, all_are, new_value_of, latest_code, plain_code, shown_number, last_value, IsDead, is_edit_by, edits_by, EntryFits, Goes}
 use Rattle.run_history.specs.Calls.{is_change}
 use Rattle.run_history.proofs.Cut.{is_yes, is_no, some_same}
 use Rattle.run_history.proofs.Disposals.{in_all}

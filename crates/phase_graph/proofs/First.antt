@@ -4,6 +4,7 @@ use Rattle.values.specs.declared.code.Code.{Code}
 use Rattle.values.specs.declared.plan.PlanNode.{PlanNode}
 use Rattle.values.specs.Plan.{IsLawful}
 use Rattle.values.specs.PlanValues.{is_derived}
+use Rattle.sources.specs.declared.body.Cause.TheVariants.{Changed}
 use Rattle.sources.specs.declared.body.Read.{Read}
 use Rattle.sources.specs.declared.opening.Opened.{Opened}
 use Rattle.sources.specs.Rows.{IsGood, IsDated, IsRoomy, IsRowGood}
@@ -88,6 +89,10 @@ module _ (nodes : List PlanNode) (codes : List Code) (rows rows' : List Opened) 
     roomy = record { each = (λ i node row n w d. let o = old_at i row w in rw (new_row i node o.0 row n o.1 w).same (roomy.each i node o.0 n o.1 d)) };
     of_plan = of_plan;
     enrolled = record { each = (λ i node row n w d ran k x e. absurd (never_read i node row n w k x e)) };
+    named = (λ i node row n w d. record {
+      unread = (λ none. no_reads i node row n w);
+      caused = (λ source a b e. let no : None ≡ Some (Changed source a b) = sym (no_cause i node row n w) ∙ e in cc);
+    });
     given = (λ i node row n w d. let o = old_at i row w in let c = code_at i row w in c.1 ∙ ap (λ (q : Code). Some q) (sym ((new_row i node o.0 row n o.1 w).takes d)));
     never = (λ i node row n w d. no_cause i node row n w);
   }
@@ -107,6 +112,7 @@ made_table t codes lawful owners rows fits base drawn closed full = record {
   early = (λ p. absurd (not_both t.clock.in_phase p closed));
   ticks = omega arith;
   good = rows.good;
+  named = rows.named;
   fits = fits;
   owners = owners;
   is_full = subst (λ (f : Option ℕ). IsFullAt f t.clock.drawn) (sym full) tt;

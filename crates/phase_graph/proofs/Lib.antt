@@ -1,5 +1,6 @@
 pub mod Blocks
 pub mod Starts
+pub mod Naming
 pub mod Tables
 pub mod Changes
 pub mod Writes
@@ -21,3 +22,4 @@ pub mod Running
 pub mod Effects
 pub mod Rows
 pub mod Pumps
+pub mod Puttings

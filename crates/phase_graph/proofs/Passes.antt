@@ -12,8 +12,8 @@ use Rattle.still_readers.proofs.Lists.{at_within, within_at, which}
 use Rattle.run_history.specs.Going.{Start, Going}
 use Rattle.run_history.specs.Calls.{edit, Calls}
 use Rattle.phase_graph.specs.declared.table.Table.{Table}
-use Rattle.phase_graph.specs.Graph.{GraphState}
-use Rattle.phase_graph.specs.Table.{seen, HaveRoom, IsKept, edit_lists, list_with, edits_with, MakesEdit}
+use Rattle.phase_graph.specs.Graph.{GraphState, edits_with}
+use Rattle.phase_graph.specs.Table.{seen, HaveRoom, IsKept, edit_lists, list_with, MakesEdit}
 use Rattle.phase_graph.specs.Way.{IsOnWay}
 use Rattle.phase_graph.proofs.Steps.{some_and}
 use Rattle.phase_graph.proofs.Views.{seen_open}
@@ -78,3 +78,6 @@ graph_edits x t t' xs room pass owner asked r h new view kept makes is s g way =
       subst (λ (l : List (List Edit)). IsOnWay s q.1 (seen t' l room)) (sym (lists_after xs room pass h asked r new is))
           (subst (IsOnWay s q.1) (sym (seen_open t' (edits_with lists pass asked r) room (kept.in_phase ∙ on.is_open))) q.3),
     )
+
+pub view_edits : (x : GraphState) (t : Table) (xs : List (Reserve Edit)) (room pass : ℕ) (asked : Edit) (r : Result ℕ Stop) (h : HasList xs room pass) (new : Reserve Edit) → seen t (edit_lists xs) room ≡ x → new.list ≡ list_with h.list.list asked r → edit_lists (set xs (pass - 1) new) ≡ edits_with x.edits pass asked r
+view_edits x t xs room pass asked r h new view is = lists_after xs room pass h asked r new is ∙ ap (λ (q : GraphState). edits_with q.edits pass asked r) view

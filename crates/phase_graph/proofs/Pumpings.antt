@@ -1,11 +1,11 @@
 -- What a part of a pump notes.
-use Rattle.std.proofs.Common.{◌≡◌, ℕ, ◌+◌, ◌≤◌, cond, Bool, true, List, [], ◌∷◌, ◌++◌, refl, ap, ◌∙◌, arith}
+use Rattle.std.proofs.Common.{◌≡◌, ℕ, ◌+◌, ◌≤◌, cond, Bool, true, List, [], ◌∷◌, ◌++◌, refl, ◌∙◌, arith}
 use Rattle.std.specs.Prelude.{count_by}
 use Rattle.std.proofs.lemmas.List.Sums.{sum_by-append}
 use Rattle.values.specs.declared.plan.Fact.{Fact}
 use Rattle.values.specs.declared.plan.Fact.TheVariants as fact
 use Rattle.values.specs.declared.plan.Noted.{Noted}
-use Rattle.run_meaning.specs.Entries.{is_ran, is_void, disposed_in}
+use Rattle.run_meaning.specs.Entries.{is_ran, is_void}
 use Rattle.run_history.specs.Going.{Start, Going, note, all_are, Goes, writes_nothing}
 use Rattle.run_history.specs.Calls.{is_change, is_of_pump}
 use Rattle.run_history.proofs.Disposals.{in_all}

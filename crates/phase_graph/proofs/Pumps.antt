@@ -9,7 +9,6 @@ use Rattle.std.proofs.lemmas.List.{length-take-le}
 use Rattle.std.proofs.lemmas.List.Sums.{sum_by-cons, count_by_more_yes, count_by_more_no, count_by-le-length}
 use Rattle.std.proofs.lemmas.Option.{get_or_from_slice_get}
 use Rattle.values.specs.declared.code.Code.{Code}
-use Rattle.values.specs.declared.plan.Kind.{Kind}
 use Rattle.values.specs.declared.plan.Kind.TheVariants as kind
 use Rattle.values.specs.declared.plan.Left.{Left}
 use Rattle.values.specs.declared.plan.Left.TheVariants as left
@@ -17,8 +16,7 @@ use Rattle.values.specs.declared.plan.Noted.{Noted}
 use Rattle.values.specs.declared.plan.Plan.{Plan}
 use Rattle.values.specs.declared.plan.PlanNode.{PlanNode}
 use Rattle.values.specs.declared.plan.Pumped.{Pumped}
-use Rattle.values.specs.Packing.{unpacked}
-use Rattle.values.specs.PlanValues.{is_derived, plan_value}
+use Rattle.values.specs.PlanValues.{plan_value}
 use Rattle.sources.specs.declared.colour.Colour.TheVariants.{Dirty}
 use Rattle.sources.specs.Rows.{value_in}
 use Rattle.store_fields.specs.declared.edit.Edit.{Edit}
@@ -32,22 +30,20 @@ use Rattle.still_effects.specs.declared.effect.Effect.{Effect}
 use Rattle.still_effects.specs.declared.effect.Effect.TheVariants as effect
 use Rattle.still_effects.specs.Effects.{IsEffect}
 use Rattle.still_effects.proofs.EffectLemmas.{effect_derived}
-use Rattle.plain_evaluation.specs.Sound.{is_effect}
 use Rattle.run_meaning.specs.Words.{In, is_among}
-use Rattle.run_meaning.specs.Opened.{IsKind, dead_of}
 use Rattle.run_meaning.specs.Entries.{disposed_in}
 use Rattle.run_meaning.specs.Merge.{is_effect_node}
 use Rattle.run_meaning.specs.Causes.{is_gone}
-use Rattle.run_history.specs.Going.{Start, Going, opened_at, plain_code, last_value, IsDead, Goes}
-use Rattle.run_history.specs.Calls.{pump, LeftFull, StandsNow, IsPumped}
+use Rattle.run_history.specs.Going.{Start, Going, plain_code, last_value, IsDead}
+use Rattle.run_history.specs.Calls.{pump, LeftFull, StandsNow}
 use Rattle.run_history.proofs.Cut.{is_yes}
 use Rattle.run_history.proofs.Steps.{nothing_goes}
 use Rattle.phase_graph.specs.declared.pumping.Turn.{Turn}
 use Rattle.phase_graph.specs.declared.pumping.Turn.TheVariants as turn
 use Rattle.phase_graph.specs.declared.table.Table.{Table}
-use Rattle.phase_graph.specs.Table.{state_of, open_seen, IsTable, IsKept, HasOwner, MakesHome}
+use Rattle.phase_graph.specs.Table.{state_of, open_seen, IsTable, IsKept, MakesHome}
 use Rattle.phase_graph.specs.Pumping.{IsEffectOf, IsOther, IsDone, IsLeft, TurnedAs, counted}
-use Rattle.phase_graph.specs.Way.{ShowsAs, IsOnWay, AreHome}
+use Rattle.phase_graph.specs.Way.{IsOnWay, AreHome}
 use Rattle.phase_graph.proofs.Changes as changes
 use Rattle.phase_graph.proofs.Disposing.{kept_on}
 use Rattle.phase_graph.proofs.Effects.{done_drawn, short_drawn, DrawsMost, done_draws, left_draws}

@@ -1,5 +1,5 @@
 -- One effect is brought up to date, and what is noted on the way.
-use Rattle.std.proofs.Common.{◌≡◌, ◌≢◌, ◌⊎◌, inl, inr, ⊎_elim, ℕ, ◌+◌, ◌-◌, ◌≤◌, ◌<◌, ◌^◌, Bool, true, false, Some, None, List, [], ◌∷◌, ◌++◌, drop, slice_get, set, length, refl, sym, ap, subst, ◌∙◌, arith}
+use Rattle.std.proofs.Common.{◌≡◌, ◌≢◌, inl, inr, ℕ, ◌+◌, ◌-◌, Bool, true, Some, None, List, [], ◌∷◌, ◌++◌, drop, slice_get, set, length, refl, sym, ap, subst, ◌∙◌, arith}
 use Rattle.values.specs.declared.code.Code.{Code}
 use Rattle.values.specs.declared.plan.Kind.{Kind}
 use Rattle.values.specs.declared.plan.Kind.TheVariants as kind
@@ -8,18 +8,14 @@ use Rattle.values.specs.declared.plan.Fact.TheVariants as fact
 use Rattle.values.specs.declared.plan.Noted.{Noted}
 use Rattle.values.specs.declared.plan.PlanNode.{PlanNode}
 use Rattle.values.specs.Packing.{unpacked}
-use Rattle.values.specs.PlanValues.{plan_value}
-use Rattle.values.specs.Reserved.{room_of}
 use Rattle.store_fields.specs.declared.edit.Edit.{Edit}
 use Rattle.sources.specs.declared.opening.Opened.{Opened}
-use Rattle.sources.specs.Rows.{value_in}
 use Rattle.still_readers.specs.declared.readers.Readers.{Readers}
 use Rattle.still_readers.proofs.Lists.{which, one_at, length_more}
 use Rattle.still_rows.specs.declared.clock.Clock.{Clock}
 use Rattle.still_rows.specs.Clock.{IsClock, IsTicked}
 use Rattle.still_rows.specs.Works.{IsStill, IsStepped}
 use Rattle.still_effects.specs.Effects.{IsEffect, IsSame, IsRan, IsCutOff}
-use Rattle.run_meaning.specs.Opened.{IsKind}
 use Rattle.run_meaning.specs.Told.{IsCurrent}
 use Rattle.run_meaning.specs.Merge.{changed_to}
 use Rattle.run_history.specs.Going.{Start, Going, opened_at, note, Numbered, all_are, latest_code, plain_code, shown_number, last_value, IsDead, edits_by, Goes}

@@ -184,8 +184,8 @@ answered_of old new node (Ok a) nodes rows rows' n o w l value number =
     }
 answered_of old new node (Err e) nodes rows rows' n o w l value number = tt
 
-pub written_of : {E : Type 0} (old new : Table) (signal : ℕ) (code : Code) (r : Result ℕ E) (nodes : List PlanNode) (rows rows' : List Opened) → nodes ≡ old.plan.nodes → rows ≡ old.rows.items → rows' ≡ new.rows.items → new.plan ≡ old.plan → new.live ≡ old.live → new.full ≡ old.full → IsStill nodes rows' new.readers new.clock → IsWorkOf nodes new.work → OnOk r (IsTicked old.clock new.clock (fact.Write signal code)) → IfOk r (λ n. n ≡ new.clock.drawn) → unpacked (packed code) ≡ code → OnOk r ((row : Opened) → slice_get rows signal ≡ Some row → IsDarkened (slice_set rows signal (written_row row (packed code) (now_of new.clock))) rows') → IfOk r (IsWrittenIn old new signal code)
-written_of old new signal code (Ok number) nodes rows rows' n o w plan live full still fits ticked drawn undone written = record {
+pub written_of : {E : Type 0} (old new : Table) (signal : ℕ) (code : Code) (r : Result ℕ E) (nodes : List PlanNode) (rows rows' : List Opened) → nodes ≡ old.plan.nodes → rows ≡ old.rows.items → rows' ≡ new.rows.items → new.plan ≡ old.plan → new.live ≡ old.live → new.full ≡ old.full → IsStill nodes rows' new.readers new.clock → IsWorkOf nodes new.work → OnOk r (IsTicked old.clock new.clock (fact.Write signal code)) → IfOk r (λ n. n ≡ new.clock.drawn) → unpacked (packed code) ≡ code → (was : Opened) → slice_get rows signal ≡ Some was → OnOk r ((row : Opened) → slice_get rows signal ≡ Some row → IsDarkened (slice_set rows signal (written_row row (packed code) (now_of new.clock))) rows') → IfOk r (IsWrittenIn old new signal code)
+written_of old new signal code (Ok number) nodes rows rows' n o w plan live full still fits ticked drawn undone was at written = record {
   plan = plan;
   live = live;
   full = full;
@@ -194,10 +194,12 @@ written_of old new signal code (Ok number) nodes rows rows' n o w plan live full
   ticked = ticked;
   drawn = drawn;
   undone = undone;
+  was = was;
+  at = ap (λ (q : List Opened). slice_get q signal) (sym o) ∙ at;
   written = subst (λ (q : List Opened). (row : Opened) → slice_get q signal ≡ Some row → IsDarkened (slice_set q signal (written_row row (packed code) (now_of new.clock))) new.rows.items) o
       (subst (λ (q : List Opened). (row : Opened) → slice_get rows signal ≡ Some row → IsDarkened (slice_set rows signal (written_row row (packed code) (now_of new.clock))) q) w written);
 }
-written_of old new signal code (Err e) nodes rows rows' n o w plan live full still fits ticked drawn undone written = tt
+written_of old new signal code (Err e) nodes rows rows' n o w plan live full still fits ticked drawn undone was at written = tt
 
 pub owner_after : (t t' : Table) (row owner : ℕ) (b : Bool) → IsAsBefore t t' → HasOwner t.plan.nodes t.live.items row owner b → HasOwner t'.plan.nodes t'.live.items row owner b
 owner_after t t' row owner b before has = record { node = has.node; at = ap (λ (q : Plan). slice_get q.nodes row) before.plan ∙ has.at; is_owner = has.is_owner; is_live = ap (λ v. slice_get v.items owner) before.live ∙ has.is_live }

@@ -6,7 +6,7 @@ use Rattle.std.proofs.lemmas.Option.{get_or_from_slice_get}
 use Rattle.values.specs.declared.code.Code.{Code}
 use Rattle.values.specs.declared.plan.Plan.{Plan}
 use Rattle.values.specs.declared.plan.PlanNode.{PlanNode}
-use Rattle.values.specs.Packing.{unpacked}
+use Rattle.values.specs.Packing.{packed, unpacked}
 use Rattle.values.specs.Plan.{IsLawful}
 use Rattle.sources.specs.declared.opening.Opened.{Opened}
 use Rattle.sources.specs.Rows.{IsGood}
@@ -14,10 +14,13 @@ use Rattle.still_readers.specs.declared.readers.Readers.{Readers}
 use Rattle.still_readers.proofs.Lists.{within_at}
 use Rattle.still_rows.specs.declared.calls.Work.{Work}
 use Rattle.still_rows.specs.declared.clock.Clock.{Clock}
+use Rattle.still_rows.specs.Clock.{now_of}
 use Rattle.still_rows.specs.Since.{IsSince}
 use Rattle.still_rows.specs.Works.{IsStill, IsStepped, IsWorkOf}
+use Rattle.carried_rows.specs.Named.{AreNamed}
 use Rattle.phase_graph.specs.declared.table.Table.{Table}
 use Rattle.phase_graph.specs.Table.{true_count, IsFullAt, most_drawn, IsTable, HasOwner, IsStirred, IsWrittenIn, IsAsBefore, IsFilled, IsKept}
+use Rattle.phase_graph.proofs.Naming.{stepped_named, written_named}
 
 pub true_few : (bs : List Bool) → true_count bs ≤ length bs
 unfolding true_count
@@ -111,6 +114,7 @@ module _ (t t' : Table) (table : IsTable t) (st : IsStirred t t') where
     early = (λ p. let b = st.step.since.base in let e = table.early (sym st.step.since.in_phase ∙ p) in omega arith);
     ticks = (let b = st.step.since.base in let e = table.ticks in omega arith);
     good = subst (λ (q : Plan). IsGood q.nodes t'.rows.items) (sym st.plan) st.step.still.good;
+    named = subst (λ (q : Plan). AreNamed q.nodes t'.rows.items) (sym st.plan) (stepped_named t.plan.nodes t.rows.items t'.rows.items t.readers t'.readers t.clock t'.clock table.good st.step table.named);
     fits = subst (λ (q : Plan). IsWorkOf q.nodes t'.work) (sym st.plan) st.fits;
     owners = ap (λ v. length v.items) st.live ∙ table.owners ∙ ap (λ (q : Plan). length q.owners) (sym st.plan);
     is_full = subst (λ (f : Option ℕ). IsFullAt f t'.clock.drawn) (sym st.full) (full_later t.full t.clock.drawn t'.clock.drawn st.step.since.drawn table.is_full);
@@ -123,14 +127,15 @@ module _ (t t' : Table) (table : IsTable t) (st : IsStirred t t') where
 
 -- ---- a write
 
-module _ (t t' : Table) (table : IsTable t) (is_open : t.clock.in_phase ≡ true) (signal : ℕ) (code : Code) (number : ℕ) (w : IsWrittenIn t t' signal code number) where
+module _ (t t' : Table) (table : IsTable t) (is_early : t.clock.base < 2 ^ 62) (signal : ℕ) (code : Code) (number : ℕ) (w : IsWrittenIn t t' signal code number) where
   pub written_table : IsTable t'
   written_table = record {
     lawful = subst IsLawful (sym w.plan) table.lawful;
     still = (λ b. subst (λ (q : Plan). IsStill q.nodes t'.rows.items t'.readers t'.clock) (sym w.plan) w.still);
-    early = (λ p. let b = w.ticked.base in let e = table.early is_open in omega arith);
+    early = (λ p. let b = w.ticked.base in omega arith);
     ticks = (let b = w.ticked.base in let e = table.ticks in omega arith);
     good = subst (λ (q : Plan). IsGood q.nodes t'.rows.items) (sym w.plan) w.still.good;
+    named = subst (λ (q : Plan). AreNamed q.nodes t'.rows.items) (sym w.plan) (written_named t.plan.nodes t.rows.items t'.rows.items signal w.was (packed code) (now_of t'.clock) w.at (w.written w.was w.at) table.named);
     fits = subst (λ (q : Plan). IsWorkOf q.nodes t'.work) (sym w.plan) w.fits;
     owners = ap (λ v. length v.items) w.live ∙ table.owners ∙ ap (λ (q : Plan). length q.owners) (sym w.plan);
     is_full = subst (λ (f : Option ℕ). IsFullAt f t'.clock.drawn) (sym w.full) (full_later t.full t.clock.drawn t'.clock.drawn (let d = w.ticked.drawn in omega arith) table.is_full);
@@ -152,6 +157,7 @@ module _ (t t' : Table) (table : IsTable t) (b : IsAsBefore t t') where
     early = (λ p. let e = ap (λ (q : Clock). q.base) b.clock in let h = table.early (ap (λ (q : Clock). q.in_phase) (sym b.clock) ∙ p) in omega arith);
     ticks = (let e = ap (λ (q : Clock). q.base) b.clock in let h = table.ticks in omega arith);
     good = subst (λ (q : Plan). IsGood q.nodes t'.rows.items) (sym b.plan) (subst (IsGood t.plan.nodes) (sym b.rows) table.good);
+    named = subst (λ (q : Plan). AreNamed q.nodes t'.rows.items) (sym b.plan) (subst (AreNamed t.plan.nodes) (sym b.rows) table.named);
     fits = subst (λ (q : Plan). IsWorkOf q.nodes t'.work) (sym b.plan) b.fits;
     owners = ap (λ v. length v.items) b.live ∙ table.owners ∙ ap (λ (q : Plan). length q.owners) (sym b.plan);
     is_full = subst (λ (f : Option ℕ). IsFullAt f t'.clock.drawn) (sym b.full) (subst (λ (q : Clock). IsFullAt t.full q.drawn) (sym b.clock) table.is_full);

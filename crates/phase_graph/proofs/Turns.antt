@@ -22,6 +22,7 @@ use Rattle.run_history.specs.Going.{Start, opened_at, note, Numbered, IsDead, ed
 use Rattle.run_history.proofs.Lists.{in_append, in_right}
 use Rattle.run_history.proofs.Disposals.{disposed_append}
 use Rattle.run_history.proofs.Steps.{one_goes}
+use Rattle.carried_rows.specs.Named.{AreNamed}
 use Rattle.phase_graph.specs.declared.table.Table.{Table}
 use Rattle.phase_graph.specs.Table.{true_count, open_seen, most_drawn, IsFullAt, IsTable, IsTurnedNow}
 use Rattle.phase_graph.specs.Way.{ShowsAs, IsOnWay}
@@ -64,6 +65,7 @@ turned_table t t' owner table plan rows readers work full was is noted clock ope
       early = (λ p. let e = table.early open' in omega arith);
       ticks = (let e = table.ticks in omega arith);
       good = subst (λ (q : Plan). IsGood q.nodes t'.rows.items) (sym plan) (subst (λ v. IsGood t.plan.nodes v.items) (sym rows) table.good);
+      named = subst (λ (q : Plan). AreNamed q.nodes t'.rows.items) (sym plan) (subst (λ v. AreNamed t.plan.nodes v.items) (sym rows) table.named);
       fits = subst (λ (q : Plan). IsWorkOf q.nodes t'.work) (sym plan) (subst (IsWorkOf t.plan.nodes) (sym work) table.fits);
       owners = ap length is ∙ length-set t.live.items owner false ∙ table.owners ∙ ap (λ (q : Plan). length q.owners) (sym plan);
       is_full = subst (λ (f : Option ℕ). IsFullAt f t'.clock.drawn) (sym full) (full_later t.full t.clock.drawn t'.clock.drawn (omega arith) table.is_full);

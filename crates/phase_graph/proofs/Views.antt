@@ -65,6 +65,15 @@ module _ (x : GraphState) (t t' : Table) (lists : List (List Edit)) (room : ℕ)
 
 -- ---- the value of a row
 
+pub row_packed : (t : Table) → IsTable t → (n : ℕ) (row : Opened) → slice_get t.rows.items n ≡ Some row → IsPacked row.code
+row_packed t table n row at =
+    let w = at_within t.rows.items n row at in let p = table.good.paired in
+    let node = within_at t.plan.nodes n (omega arith) in
+    (table.good.each n node.0 row node.1 at).is_packed
+
+pub rows_packed : (x : GraphState) (t : Table) (lists : List (List Edit)) (room : ℕ) → seen t lists room ≡ x → IsTable t → (n : ℕ) (row : Opened) → slice_get x.rows n ≡ Some row → IsPacked row.code
+rows_packed x t lists room view table = subst (λ (y : GraphState). (n : ℕ) (row : Opened) → slice_get y.rows n ≡ Some row → IsPacked row.code) view (row_packed t table)
+
 pub value_is : (x : GraphState) (t : Table) (lists : List (List Edit)) (room row : ℕ) (kept : Opened) (rs : List Opened) → seen t lists room ≡ x → IsTable t → rs ≡ t.rows.items → row < length rs → kept ≡ get_or rs row kept → (r : Option Code) → IfSome r (λ code. code ≡ unpacked kept.code) → IfNone r ((code : Code) → IsValue code → packed code ≢ kept.code) → r ≡ option_map (λ k. unpacked k.code) (slice_get x.rows row)
 value_is x t lists room row kept rs view table same within is r some none = by r some none ∙ sym (ap (option_map (λ k. unpacked k.code)) (ap (λ (q : GraphState). slice_get q.rows row) (sym view) ∙ at))
   where
@@ -72,7 +81,7 @@ value_is x t lists room row kept rs view table same within is r some none = by r
     at = ap (λ (q : List Opened). slice_get q row) (sym same) ∙ slice_get_read rs (length rs) row kept refl within is
 
     is_packed : IsPacked kept.code
-    is_packed = let w = at_within t.rows.items row kept at in let p = table.good.paired in let n = within_at t.plan.nodes row (omega arith) in (table.good.each row n.0 kept n.1 at).is_packed
+    is_packed = row_packed t table row kept at
 
     by : (r : Option Code) → IfSome r (λ code. code ≡ unpacked kept.code) → IfNone r ((code : Code) → IsValue code → packed code ≢ kept.code) → r ≡ Some (unpacked kept.code)
     by None some none = let p = is_packed in absurd (none p.code p.value p.packs)

@@ -1,7 +1,9 @@
 -- The graph over the rows of a plan, as contracts see it.
-use Rattle.std.specs.Prelude.{◌≡◌, ℕ, ◌+◌, Bool, List}
+use Rattle.std.specs.Prelude.{◌≡◌, ℕ, ◌+◌, ◌-◌, Bool, Result, Ok, Err, List, [], ◌∷◌, ◌++◌, slice_set, unwrap_or}
 use Rattle.values.specs.declared.plan.Noted.{Noted}
 use Rattle.values.specs.declared.plan.Plan.{Plan}
+use Rattle.values.specs.declared.plan.Stop.{Stop}
+use Rattle.script_items.specs.Script.{numbered}
 use Rattle.store_fields.specs.declared.edit.Edit.{Edit}
 use Rattle.sources.specs.declared.opening.Opened.{Opened}
 
@@ -33,3 +35,8 @@ pub record StaysOpen (old new : GraphState) : Type 0 where
   pub base : new.base ≡ old.base
   pub is_open : new.is_open ≡ old.is_open
   pub edit_room : new.edit_room ≡ old.edit_room
+
+-- the lists of edits with the one that was accepted behind those of its pass
+abbrev pub edits_with : List (List Edit) → ℕ → Edit → Result ℕ Stop → List (List Edit)
+edits_with lists pass asked (Ok number) = slice_set lists (pass - 1) (unwrap_or (numbered lists pass) [] ++ asked ∷ [])
+edits_with lists pass asked (Err why) = lists

@@ -1,5 +1,5 @@
 -- What holds of the rows of a plan with all that the calls work with, and what contracts see of them.
-use Rattle.std.specs.Prelude.{◌≡◌, ◌⊎◌, ℕ, ◌+◌, ◌-◌, ◌^◌, ◌<◌, ◌≤◌, ◌==◌, Bool, true, false, if◌then◌else◌, Option, Some, None, IsSome, Result, Ok, Err, List, [], ◌∷◌, ◌++◌, length, map, slice_get, slice_set, unwrap_or}
+use Rattle.std.specs.Prelude.{◌≡◌, ◌≢◌, ◌⊎◌, ℕ, ◌+◌, ◌-◌, ◌^◌, ◌<◌, ◌≤◌, ◌==◌, Bool, true, false, if◌then◌else◌, Option, Some, None, IsSome, Result, Ok, Err, List, [], ◌∷◌, ◌++◌, length, map, slice_get, slice_set, unwrap_or}
 use Rattle.std.specs.List.{list_any}
 use Rattle.values.specs.declared.code.Code.{Code}
 use Rattle.values.specs.declared.plan.Disposal.{Disposal}
@@ -15,6 +15,7 @@ use Rattle.values.specs.Plan.{IsLawful}
 use Rattle.values.specs.PlanValues.{is_derived, plan_value}
 use Rattle.values.specs.Reserved.{Reserve, room_of}
 use Rattle.store_fields.specs.declared.edit.Edit.{Edit}
+use Rattle.carried_rows.specs.Named.{AreNamed}
 use Rattle.sources.specs.declared.opening.Opened.{Opened}
 use Rattle.still_rows.specs.declared.clock.Clock.{Clock}
 use Rattle.sources.specs.Colours.{is_clean}
@@ -30,7 +31,7 @@ use Rattle.script_items.specs.Script.{numbered}
 use Rattle.run_meaning.specs.Opened.{around_from}
 use Rattle.run_history.specs.Going.{Start, Going}
 use Rattle.run_history.specs.Calls.{Call, edit, Calls}
-use Rattle.phase_graph.specs.Graph.{GraphState}
+use Rattle.phase_graph.specs.Graph.{GraphState, edits_with}
 use Rattle.phase_graph.specs.Way.{IsOnWay, AreHome}
 
 -- what is seen of these parts while a phase is open
@@ -74,6 +75,8 @@ pub record IsTable (t : Table) : Type 0 where
   pub early : t.clock.in_phase ≡ true → t.clock.base < 2 ^ 62
   pub ticks : t.clock.base < 2 ^ 63
   pub good : IsGood t.plan.nodes t.rows.items
+  -- the row that a run was caused by is one that the expression names
+  pub named : AreNamed t.plan.nodes t.rows.items
   pub fits : IsWorkOf t.plan.nodes t.work
   pub owners : length t.live.items ≡ length t.plan.owners
   pub is_full : IsFullAt t.full t.clock.drawn
@@ -155,11 +158,6 @@ abbrev pub list_with : List Edit → Edit → Result ℕ Stop → List Edit
 list_with list asked (Ok number) = list ++ asked ∷ []
 list_with list asked (Err why) = list
 
--- the lists of edits with the one that was accepted behind those of its pass
-abbrev pub edits_with : List (List Edit) → ℕ → Edit → Result ℕ Stop → List (List Edit)
-edits_with lists pass asked (Ok number) = slice_set lists (pass - 1) (unwrap_or (numbered lists pass) [] ++ asked ∷ [])
-edits_with lists pass asked (Err why) = lists
-
 -- the edit of this place takes a phase of the table from what it was to what it is
 abbrev pub MakesEdit : Table → Table → ℕ → ℕ → ℕ → Edit → Result ℕ Stop → Type 0
 MakesEdit old new pass owner index asked answer = (s : Start) (g : Going) (lists : List (List Edit)) (room : ℕ) → IsOnWay s g (open_seen old lists room) → (list : List Edit) → numbered lists pass ≡ Some list → length list ≡ index → (block : List Noted) × (h : Going) × Calls s g block h pass (edit owner asked answer) × IsOnWay s h (open_seen new (edits_with lists pass asked answer) room)
@@ -190,7 +188,21 @@ pub record IsWrittenIn (old new : Table) (signal : ℕ) (code : Code) (number : 
   pub ticked : IsTicked old.clock new.clock (Write signal code)
   pub drawn : number ≡ new.clock.drawn
   pub undone : unpacked (packed code) ≡ code
+  pub was : Opened
+  pub at : slice_get old.rows.items signal ≡ Some was
   pub written : (row : Opened) → slice_get old.rows.items signal ≡ Some row → IsDarkened (slice_set old.rows.items signal (written_row row (packed code) (now_of new.clock))) new.rows.items
+
+-- the row keeps its value as this word or not
+pub record HasWord (t : Table) (row word : ℕ) (is : Bool) : Type 0 where
+  pub opened : Opened
+  pub at : slice_get t.rows.items row ≡ Some opened
+  pub yes : is ≡ true → opened.code ≡ word
+  pub no : is ≡ false → opened.code ≢ word
+
+-- a row has this value; where it had it already, all is as it was
+abbrev pub IsPutAs : Table → Table → ℕ → Code → Type 0
+IsPutAs old new row code = (opened : Opened) × (slice_get old.rows.items row ≡ Some opened)
+    × (((unpacked opened.code ≡ code) × (new ≡ old)) ⊎ ((unpacked opened.code ≢ code) × ((number : ℕ) × IsWrittenIn old new row code number)))
 
 -- only what the calls work with has changed
 pub record IsAsBefore (old new : Table) : Type 0 where
@@ -235,6 +247,7 @@ pub record AreFirstRows (nodes : List PlanNode) (codes : List Code) (rs : List O
   pub roomy : IsRoomy nodes rs
   pub of_plan : IsReadersOf nodes readers
   pub enrolled : IsEnrolled nodes rs readers
+  pub named : AreNamed nodes rs
   pub given : (i : ℕ) (node : PlanNode) (row : Opened) → slice_get nodes i ≡ Some node → slice_get rs i ≡ Some row → is_derived node.kind ≡ false → slice_get codes i ≡ Some (unpacked row.code)
   pub never : (i : ℕ) (node : PlanNode) (row : Opened) → slice_get nodes i ≡ Some node → slice_get rs i ≡ Some row → is_derived node.kind ≡ true → row.body.cause ≡ None
 

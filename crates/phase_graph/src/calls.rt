@@ -5,7 +5,7 @@ ghost use Rattle.values.specs.declared.plan.Noted.{Noted as NotedValue};
 ghost use Rattle.script_items.specs.Script.{numbered};
 ghost use Rattle.run_history.specs.Going.{Start, Going};
 ghost use Rattle.run_history.specs.Calls.{set, get, pump, dispose, edit, Calls};
-ghost use Rattle.phase_graph.specs.Graph.{StaysOpen};
+ghost use Rattle.phase_graph.specs.Graph.{StaysOpen, edits_with};
 ghost use Rattle.phase_graph.specs.Way.{IsOnWay, AreHome};
 
 use crate::edits::edit_in;
@@ -71,6 +71,8 @@ impl Graph {
         requires owner { owner < length self.old.plan.owners }
         requires pass { IsSomeAnd (numbered self.old.edits pass) (λ edits. length edits < self.old.edit_room) }
         ensures stays { StaysOpen self.old self.new }
+        ensures live { self.new.live ≡ self.old.live }
+        ensures edits { self.new.edits ≡ edits_with self.old.edits pass asked result }
         ensures call { (s : Start) (g : Going) → IsOnWay s g self.old → (block : List NotedValue) × (h : Going) × Calls s g block h pass (edit owner asked result) × IsOnWay s h self.new }
     {
         let list = &mut self.edits[pass as usize - 1];

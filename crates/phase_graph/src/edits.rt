@@ -16,6 +16,7 @@ impl Table {
         requires open { self.old.clock.in_phase ≡ true }
         requires owner { owner < length self.old.plan.owners }
         ensures kept { IsKept self.old self.new }
+        ensures live { self.new.live ≡ self.old.live }
         ensures call { (asked : EditValue) → MakesEdit self.old self.new pass owner index asked result }
     {
         if self.is_live(owner) {
@@ -30,6 +31,7 @@ impl Table {
         requires open { self.old.clock.in_phase ≡ true }
         requires live { slice_get self.old.live.items owner ≡ Some true }
         ensures kept { IsKept self.old self.new }
+        ensures live { self.new.live ≡ self.old.live }
         ensures call { (asked : EditValue) → MakesEdit self.old self.new pass owner index asked result }
     {
         if let Some(number) = self.full {
@@ -44,6 +46,7 @@ impl Table {
         requires open { self.old.clock.in_phase ≡ true }
         requires live { slice_get self.old.live.items _owner ≡ Some true }
         ensures kept { IsKept self.old self.new }
+        ensures live { self.new.live ≡ self.old.live }
         ensures call { (asked : EditValue) → MakesEdit self.old self.new pass _owner index asked result }
     {
         match self.clock.tick(Fact::Edit { pass, index }) {
@@ -67,6 +70,7 @@ pub(crate) fn edit_in(
     requires room { length list.old.list < room_of list.old }
     requires few { length list.old.list < 65537 }
     ensures kept { IsKept table.old table.new }
+    ensures live { table.new.live ≡ table.old.live }
     ensures room { room_of list.new ≡ room_of list.old }
     ensures list { list.new.list ≡ list_with list.old.list asked result }
     ensures call { MakesEdit table.old table.new pass owner (length list.old.list) asked result }

@@ -1,7 +1,8 @@
 //! The graph over the rows of a plan.
-ghost use Rattle.std.specs.Prelude.{◌≡◌, length, slice_get, option_map};
+ghost use Rattle.std.specs.Prelude.{◌≡◌, ℕ, false, Some, map, length, slice_get, slice_index_or, option_map};
 ghost use Rattle.std.specs.Option.{option_copied};
-ghost use Rattle.values.specs.Packing.{unpacked};
+ghost use Rattle.values.specs.Packing.{unpacked, IsPacked};
+ghost use Rattle.sources.specs.declared.opening.Opened.{Opened as OpenedValue};
 ghost use Rattle.phase_graph.specs.Graph.{ticks_of};
 
 use crate::table::Table;
@@ -43,8 +44,17 @@ impl Graph {
     pub fn plan(&self) -> &Plan
         ensures plan { result.now ≡ self.now.plan }
         ensures paired { length self.now.rows ≡ length self.now.plan.nodes }
+        ensures owned { length self.now.live ≡ length self.now.plan.owners }
     {
         &self.table.plan
+    }
+
+    /// The rows, in order.
+    pub fn rows(&self) -> &[Opened]
+        ensures rows { result.now ≡ self.now.rows }
+        ensures packed { (n : ℕ) (row : OpenedValue) → slice_get self.now.rows n ≡ Some row → IsPacked row.code }
+    {
+        self.table.rows.as_slice()
     }
 
     /// What is kept of a row. `None` exactly where there is no such row.
@@ -60,6 +70,24 @@ impl Graph {
     {
         let kept = self.table.rows.get(row as usize)?;
         Code::unpack(kept.code)
+    }
+
+    /// Whether an owner is live. One that isn't there is not.
+    pub fn is_live(&self, owner: u32) -> bool
+        ensures { result ≡ slice_index_or self.now.live owner false }
+    {
+        self.table
+            .live
+            .get(owner as usize)
+            .copied()
+            .unwrap_or(false)
+    }
+
+    /// The edits that each pass has noted, in order.
+    pub fn posts(&self) -> &[Reserved<Edit>]
+        ensures { map (λ post. post.list) result.now ≡ self.now.edits }
+    {
+        self.edits.as_slice()
     }
 
     /// The count of ticks.

@@ -10,6 +10,7 @@ mod graph;
 mod making;
 mod phases;
 mod pumping;
+mod putting;
 mod table;
 mod writing;
 

@@ -1,6 +1,7 @@
 //! Writes.
-ghost use Rattle.std.specs.Prelude.{◌≡◌, ◌≤◌, ◌<◌, ◌⊎◌, ℕ, true, None, length, slice_get, IsSomeAnd, IfOk, OnErr};
+ghost use Rattle.std.specs.Prelude.{◌≡◌, ◌≤◌, ◌<◌, ◌⊎◌, ◌^◌, ℕ, true, None, length, slice_get, IsSomeAnd, IfOk, OnErr};
 ghost use Rattle.values.specs.declared.plan.Kind.TheVariants as kind;
+ghost use Rattle.still_readers.specs.Marking.{IsSource};
 ghost use Rattle.run_history.specs.Calls.{set};
 ghost use Rattle.phase_graph.specs.Table.{IsTable, HasOwner, IsWrittenIn, IsAsBefore, IsKept, MakesCall};
 
@@ -44,10 +45,10 @@ impl Table {
     }
 
     /// Writes the value, as far as there is a number for it.
-    fn put(&mut self, signal: u32, code: Code) -> Result<u32, Full>
+    pub(crate) fn put(&mut self, signal: u32, code: Code) -> Result<u32, Full>
         requires table { IsTable self.old }
-        requires open { self.old.clock.in_phase ≡ true }
-        requires row { IsSomeAnd (slice_get self.old.plan.nodes signal) (λ node. (node.kind ≡ kind.Signal) ⊎ (node.kind ≡ kind.Field)) }
+        requires ticks { self.old.clock.base < 2 ^ 62 }
+        requires source { IsSource self.old.plan.nodes signal }
         ensures written { IfOk result (IsWrittenIn self.old self.new signal code) }
         ensures full { OnErr result (65536 ≤ self.old.clock.drawn) }
         ensures unchanged { OnErr result (IsAsBefore self.old self.new) }

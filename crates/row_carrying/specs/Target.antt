@@ -1,5 +1,5 @@
 -- Where each row goes.
-use Rattle.std.specs.Prelude.{◌≡◌, ◌<◌, ℕ, ⊥, List, slice_get, slice_index_or, unwrap_or, Option, Some, None}
+use Rattle.std.specs.Prelude.{◌≡◌, ◌<◌, ℕ, List, slice_get, slice_index_or, unwrap_or, Option, Some, None}
 
 -- the row that this one goes to; one that goes nowhere is not asked for
 abbrev pub number_by : List (Option ℕ) → ℕ → ℕ

@@ -1,5 +1,5 @@
 //! Which row goes to which.
-ghost use Rattle.std.specs.Prelude.{◌≡◌, IfOk};
+ghost use Rattle.std.specs.Prelude.{◌≡◌, ◌<◌, length, slice_get, Some, IfOk};
 ghost use Rattle.plan_meaning.specs.Carried as spec;
 
 use node_names::Names;
@@ -15,4 +15,13 @@ pub fn rows_to(alloc: Global, old: &Names, new: &Names) -> Result<Vec<Option<u32
         to.push(target(old, new, row))?;
     }
     Ok(to)
+}
+
+/// The row of the second layout that a row of the first goes to.
+fn target(old: &Names, new: &Names, row: u32) -> Option<u32>
+    requires { row < length old.now }
+    ensures { slice_get (spec.rows_to old.now new.now) row ≡ Some result }
+{
+    let place = old.place(row)?;
+    new.row(place)
 }

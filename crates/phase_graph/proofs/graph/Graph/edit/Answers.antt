@@ -4,7 +4,7 @@ use Rattle.values.specs.declared.plan.Plan.{Plan}
 use Rattle.values.specs.Reserved.{Reserve, room_of}
 use Rattle.store_fields.specs.declared.edit.Edit.{Edit}
 use Rattle.phase_graph.specs.Table.{MakesEdit, list_with}
-use Rattle.phase_graph.proofs.Passes.{list_there, room_after, graph_edits}
+use Rattle.phase_graph.proofs.Passes.{list_there, room_after, graph_edits, view_edits}
 use Rattle.phase_graph.proofs.graph.Graph.edit.Goals as goal
 
 pub edit_in-requires-clause-room : goal.edit_in-requires-clause-room
@@ -43,3 +43,10 @@ returns-clause-call c = λ s g way.
     graph_edits c.args.self.now c.self.inside.table c.edit_in.new.table c.self.inside.edits.items c.self.inside.edit_room c.args.pass c.args.owner c.args.asked c.edit_in.result h c.edit_in.new.list c.self.view_is c.edit_in.ensures.kept
     (subst (λ (q : Reserve Edit). MakesEdit c.self.inside.table c.edit_in.new.table c.args.pass c.args.owner (length q.list) c.args.asked c.edit_in.result) same c.edit_in.ensures.call)
     (subst (λ (q : Reserve Edit). c.edit_in.new.list.list ≡ list_with q.list c.args.asked c.edit_in.result) same c.edit_in.ensures.list) s g way
+
+pub returns-clause-edits : goal.returns-clause-edits
+returns-clause-edits c =
+    let h = list_there c.args.self.now c.self.inside.table c.self.inside.edits.items c.self.inside.edit_room c.args.pass c.self.view_is c.requires.pass in
+    let same : c.index_mut-list.result.now ≡ h.list = c.index_mut-list.ensures.value ∙ get_or_from_slice_get c.self.inside.edits.items (c.args.pass - 1) h.list _ h.at in
+    view_edits c.args.self.now c.self.inside.table c.self.inside.edits.items c.self.inside.edit_room c.args.pass c.args.asked c.edit_in.result h c.edit_in.new.list c.self.view_is
+    (subst (λ (q : Reserve Edit). c.edit_in.new.list.list ≡ list_with q.list c.args.asked c.edit_in.result) same c.edit_in.ensures.list)

@@ -1,0 +1,4 @@
+pub mod Upto
+pub mod RowWrites
+pub mod Shown
+pub mod AtStart

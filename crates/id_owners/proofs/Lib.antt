@@ -1,0 +1,4 @@
+pub mod Appends
+pub mod Ids
+pub mod Alike
+pub mod OwnedForms

@@ -1,0 +1,5 @@
+pub mod Posted
+pub mod Numbers
+pub mod Folds
+pub mod Told
+pub mod Fits
