@@ -1,5 +1,5 @@
 -- What each id holds at the start, against what the text says of it.
-use Rattle.std.proofs.Common.{◌≡◌, ℕ, zero, suc, ◌+◌, ◌<◌, ◌≤◌, ◌^◌, ◌⊎◌, inl, inr, ◌==◌, ◌&&◌, if◌then◌else◌, Bool, true, false, List, [], ◌∷◌, ◌++◌, map, length, get_or, Option, Some, None, refl, sym, ap, subst, ◌∙◌, arith, length-append}
+use Rattle.std.proofs.Common.{◌≡◌, ℕ, zero, suc, ◌+◌, ◌<◌, ◌≤◌, ◌^◌, ◌⊎◌, inl, inr, ◌==◌, ◌&&◌, if◌then◌else◌, Bool, true, false, List, [], ◌∷◌, ◌++◌, map, length, get_or, Option, Some, None, refl, sym, ap, subst, ◌∙◌, arith}
 use Rattle.std.specs.List.{flat_map, list_all, range_with_len}
 use Rattle.std.proofs.Math.ListN.{get_or-eq_default}
 use Rattle.std.proofs.lemmas.Bool.{eqb-true}
@@ -18,16 +18,16 @@ use Rattle.component_items.specs.Ids.{ids_in}
 use Rattle.component_items.specs.Kept.{IsKept}
 use Rattle.plain_evaluation.specs.Changed.{store_in, store_of}
 use Rattle.plain_evaluation.specs.Fits.{all_fit, fits_step, item_fits, rows_fit, holding_fits, store_held}
-use Rattle.plain_evaluation.specs.Held.{Holding, nothing, value, stored, arrived, no_rows, Held, holding_of, is_live, first_attr, first_step, item_first, first_held}
+use Rattle.plain_evaluation.specs.Held.{Holding, nothing, value, stored, arrived, Held, holding_of, is_live, first_attr, first_step, item_first, first_held}
 use Rattle.plain_evaluation.specs.Lookup.{found_in}
-use Rattle.plain_evaluation.specs.Origins.{Told, nothing_told, source, loads, derives, Around, Origin, no_origin, tell_attr, tell_fields, tell_all, tell_step, tell_item, tell_items, top_around, origin_in}
+use Rattle.plain_evaluation.specs.Origins.{Told, nothing_told, source, derives, Around, Origin, no_origin, tell_attr, tell_fields, tell_all, tell_step, tell_item, tell_items, top_around, origin_in}
 use Rattle.plain_evaluation.specs.Written.{pairs_among}
 use Rattle.plain_evaluation.proofs.Begins.{items_begun}
 use Rattle.plain_evaluation.proofs.Goings.{items_go}
 use Rattle.plain_evaluation.proofs.Lookup.{ids_of, length_ids, AreFound, found-append}
 use Rattle.plain_evaluation.proofs.Places.{and_cases}
 use Rattle.plain_evaluation.proofs.Told.{origins_right}
-use Rattle.held_state.specs.Holds.{Form, no_form, signal_form, store_form, load_form, form_of, owner_around}
+use Rattle.held_state.specs.Holds.{Form, no_form, signal_form, store_form, form_of, owner_around}
 use Rattle.held_state.specs.State.{HeldState, IsOf}
 use Rattle.held_state.proofs.Gone.{items_taken}
 use Rattle.held_state.proofs.OfComponent.{store_form_of}
@@ -239,26 +239,32 @@ module _ (component : Component) (kept : IsKept component) where
     pub signal_held : (id : ℕ) → (origin_in component id).told ≡ source kind.Signal → is_live state.held (owner_around component id) ≡ true → form_of (holding_of state.held id) ≡ signal_form
     signal_held id told live = is.holds.each id ∙ ap (λ (b : Bool). if b then form_of (holding_of (first_held component) id) else no_form) live ∙ (at_start state.held is.fits.stores id).said told
 
+    sized : (h : Holding) (store : KeyedRows) → store_in h ≡ Some store → (max width : ℕ) → holding_fits max width h ≡ true → (store.width ≡ width) × (rows_fit store.max store.width store.rows ≡ true)
+    sized nothing store was max width fit = cc
+    sized (value code) store was max width fit = cc
+    sized (stored other) store was max width fit =
+        let same : other ≡ store = cc in
+        let now : holding_fits max width (stored store) ≡ true = ap (λ (s : KeyedRows). holding_fits max width (stored s)) (sym same) ∙ fit in
+        let both = and_cases ((store.max == max) && (store.width == width)) (rows_fit max width store.rows) now in
+        let two = and_cases (store.max == max) (store.width == width) both.0 in
+        let at_max : store.max ≡ max = eqb-true store.max max two.0 in
+        let at_width : store.width ≡ width = eqb-true store.width width two.1 in
+        (at_width, (λ i. rows_fit (at_max i) (at_width i) store.rows) ∙ both.1)
+    sized (arrived key) store was max width fit = cc
+
+    store_fields : (id : ℕ) (store : KeyedRows) → store_of state.held id ≡ Some store → HasFields state.held (origin_in component) id
+    store_fields id store was = (at_start state.held is.fits.stores id).store (form_first id store_form (λ e. cc) (store_form_of (holding_of state.held id) store was)).0
+
+    -- a live store's rows are as it may have them
+    pub store_fits : (id : ℕ) (store : KeyedRows) → store_of state.held id ≡ Some store → rows_fit store.max store.width store.rows ≡ true
+    store_fits id store was = let has = store_fields id store was in (sized (holding_of state.held id) store was has.max has.width has.fits).1
+
     -- the ids of a live store's fields are told to be its fields
-    pub field_told : (id : ℕ) (store : KeyedRows) (k : ℕ) → store_of state.held id ≡ Some store → k < store.width → ((origin_in component (2 + id + k)).told ≡ source kind.Field) × ((origin_in component (2 + id + k)).around.store ≡ Some id) × (rows_fit store.max store.width store.rows ≡ true)
+    pub field_told : (id : ℕ) (store : KeyedRows) (k : ℕ) → store_of state.held id ≡ Some store → k < store.width → ((origin_in component (2 + id + k)).told ≡ source kind.Field) × ((origin_in component (2 + id + k)).around.store ≡ Some id)
     field_told id store k was lt =
-        let has = (at_start state.held is.fits.stores id).store (form_first id store_form (λ e. cc) (store_form_of (holding_of state.held id) store was)).0 in
-        let sizes = sized (holding_of state.held id) was has.max has.width has.fits in
-        let one = has.field k (let w = sizes.0 in omega arith) in
-        (one.0, one.1, sizes.1)
-      where
-        sized : (h : Holding) → store_in h ≡ Some store → (max width : ℕ) → holding_fits max width h ≡ true → (store.width ≡ width) × (rows_fit store.max store.width store.rows ≡ true)
-        sized nothing was max width fit = cc
-        sized (value code) was max width fit = cc
-        sized (stored other) was max width fit =
-            let same : other ≡ store = cc in
-            let now : holding_fits max width (stored store) ≡ true = ap (λ (s : KeyedRows). holding_fits max width (stored s)) (sym same) ∙ fit in
-            let both = and_cases ((store.max == max) && (store.width == width)) (rows_fit max width store.rows) now in
-            let two = and_cases (store.max == max) (store.width == width) both.0 in
-            let at_max : store.max ≡ max = eqb-true store.max max two.0 in
-            let at_width : store.width ≡ width = eqb-true store.width width two.1 in
-            (at_width, (λ i. rows_fit (at_max i) (at_width i) store.rows) ∙ both.1)
-        sized (arrived key) was max width fit = cc
+        let has = store_fields id store was in
+        let width = (sized (holding_of state.held id) store was has.max has.width has.fits).0 in
+        has.field k (omega arith)
 
     pub few_holdings : length state.held.holdings < 2 ^ 31
     few_holdings = let long = is.holds.long in let few = kept.few_ids in omega arith

@@ -1,5 +1,5 @@
 -- Held state as rows show it is still of its component.
-use Rattle.std.proofs.Common.{◌≡◌, ℕ, zero, suc, ◌+◌, ◌<◌, ◌≤◌, ◌==◌, ◌&&◌, ◌||◌, not, nat_le, Bool, true, false, List, [], ◌∷◌, map, length, get_or, set, Option, Some, None, slice_get, refl, sym, ap, subst, ◌∙◌, arith}
+use Rattle.std.proofs.Common.{◌≡◌, ℕ, zero, suc, ◌+◌, ◌≤◌, ◌==◌, ◌&&◌, ◌||◌, not, nat_le, Bool, true, List, [], ◌∷◌, map, length, get_or, set, Option, Some, None, refl, sym, ap, subst, ◌∙◌, arith}
 use Rattle.std.specs.Prelude.{IsSome}
 use Rattle.std.specs.List.{list_all, list_any}
 use Rattle.std.specs.Option.{option_map_or}
@@ -19,7 +19,7 @@ use Rattle.plan_meaning.specs.Layout.{row_of}
 use Rattle.held_state.specs.Holds.{form_of}
 use Rattle.held_state.specs.State.{HeldState, IsOf, with_held}
 use Rattle.held_state.proofs.Holds.{alike_holds}
-use Rattle.held_rows.specs.Shown.{shown_at, fields_shown, row_shown, holding_shown, holdings_shown, held_shown}
+use Rattle.held_rows.specs.Shown.{fields_shown, row_shown, holding_shown, holdings_shown, held_shown}
 use Rattle.held_rows.proofs.Upto.{upto, whole, upto_all}
 
 module _ (places : List Place) (values : ℕ → Code) where

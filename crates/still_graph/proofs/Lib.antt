@@ -8,6 +8,8 @@ pub mod Fold
 pub mod Written
 pub mod Past
 pub mod Steps
+pub mod Stays
+pub mod Targets
 pub mod Moves
 pub mod PhaseEnds
 pub mod Begins

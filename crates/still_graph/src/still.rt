@@ -64,6 +64,7 @@ pub struct Still {
 }
 
 impl Model for Still {
+    ghost use Rattle.std.specs.Prelude.{◌≡◌};
     ghost use Rattle.std.specs.Coded.{codes};
     ghost use Rattle.component_items.specs.contracts.component.Component as parts_model;
     ghost use Rattle.held_state.specs.contracts.held.Held as held_model;

@@ -1,13 +1,11 @@
 use Rattle.std.proofs.Common.{◌∙◌, ap}
 use Rattle.run_history.specs.Calls.{set}
-use Rattle.still_graph.specs.Stands.{still_of}
-use Rattle.still_graph.specs.Still.{StillState, opened_in}
-use Rattle.still_graph.proofs.Moves.{call_keeps, call_made}
-use Rattle.still_graph.proofs.Steps.{set_goes_on}
+use Rattle.still_graph.specs.Still.{StillState}
+use Rattle.still_graph.proofs.Stays.{call_stays, call_made}
 use Rattle.still_graph.proofs.still.Still.set.Goals as goal
 
 pub invariant_of-self : goal.invariant_of-self
-invariant_of-self c = call_keeps (still_of c.self.inside.component c.self.inside.held c.self.inside.names c.self.inside.graph c.self.inside.journal.phases c.self.inside.stage) c.self.inside.journal.spare c.set.new.self c.self.invariant (ap (λ (x : StillState). x.stage) c.self.view_is ∙ c.requires.«open») c.set.ensures.stays.plan c.set.ensures.live (set_goes_on (opened_in (still_of c.self.inside.component c.self.inside.held c.self.inside.names c.self.inside.graph c.self.inside.journal.phases c.self.inside.stage)) c.args.signal c.args.code c.set.result c.self.inside.graph c.set.new.self c.set.ensures.call)
+invariant_of-self c = (call_stays _ c.self.inside.journal.spare c.set.new.self 0 (set c.args.signal c.args.code c.set.result) c.self.invariant.0 (ap (λ (x : StillState). x.stage) c.self.view_is ∙ c.requires.«open») c.set.ensures.stays.plan (λ ran g way. c.set.ensures.call _ g 0 way), c.self.invariant.1)
 
 pub returns-clause-call : goal.returns-clause-call
-returns-clause-call c = call_made (still_of c.self.inside.component c.self.inside.held c.self.inside.names c.self.inside.graph c.self.inside.journal.phases c.self.inside.stage) c.args.self.now c.set.new.self (set c.args.signal c.args.code c.set.result) c.self.view_is c.set.ensures.call
+returns-clause-call c = λ past g pass at. call_made _ c.args.self.now c.set.new.self pass (set c.args.signal c.args.code c.set.result) c.self.view_is (λ ran h way. c.set.ensures.call _ h pass way) past g at
