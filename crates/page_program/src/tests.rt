@@ -91,7 +91,7 @@ fn inputs_give_their_pages_in_pieces_of_any_size(rt: HostRuntime) -> Result<(), 
 
 #[test]
 fn inputs_are_refused_with_their_line(rt: HostRuntime) -> Result<(), Fail> {
-    let rows: [(&[u8], u8, &str); 16] = [
+    let rows: [(&[u8], u8, &str); 13] = [
         (b"", 3, "bad text 3 at 1:1\n"),
         (b"component 9", 3, "bad text 3 at 1:11\n"),
         (b"component 1\n<p><br></br></p>", 3, "bad text 11 at 2:10\n"),
@@ -126,21 +126,6 @@ fn inputs_are_refused_with_their_line(rt: HostRuntime) -> Result<(), Fail> {
         ),
         (
             b"component 1\nsignal a = 1\n---\nphase lane set a = 2 lane",
-            20,
-            "not built\n",
-        ),
-        (
-            b"component 1\neffect e = 1\n---\nphase lane pump",
-            20,
-            "not built\n",
-        ),
-        (
-            b"component 1\narea a {}\n---\nphase lane dispose a",
-            20,
-            "not built\n",
-        ),
-        (
-            b"component 1\nstore s max 1 { t = 0 }\n---\nphase\nphase lane get s[1].t remove s 1",
             20,
             "not built\n",
         ),
@@ -259,18 +244,138 @@ fn scripts_are_answered_in_the_report(rt: HostRuntime) -> Result<(), Fail> {
         ),
         ("component 1|<p></p>|---|phase|phase lane", "<p></p>"),
     ];
-    let alloc = rt.alloc();
     for (input, output) in rows {
-        let input = lines(alloc, input)?;
-        let (finish, bytes) = run_with(&rt, &["-a"], &input, 100, &[], &[])?;
-        assert_eq!(rt; finish.status, 0);
-        assert!(rt; finish.journal.is_some());
-        assert_eq!(rt; bytes.as_slice(), lines(alloc, output)?.as_slice());
-        let (finish, bytes) = run_with(&rt, &[], &input, 100, &[], &[])?;
-        let page = output.rsplit('|').next().unwrap_or("");
-        assert_eq!(rt; finish.status, 0);
-        assert_eq!(rt; bytes.as_slice(), page.as_bytes());
+        writes(&rt, input, output)?;
     }
+    Ok(())
+}
+
+/// Runs the input with `-a`, which is to write the output, and without, which is to write its last line.
+fn writes(rt: &HostRuntime, input: &str, output: &str) -> Result<(), Fail> {
+    let alloc = rt.alloc();
+    let input = lines(alloc, input)?;
+    let (finish, bytes) = run_with(rt, &["-a"], &input, 100, &[], &[])?;
+    assert_eq!(rt; finish.status, 0);
+    assert!(rt; finish.journal.is_some());
+    assert_eq!(rt; bytes.as_slice(), lines(alloc, output)?.as_slice());
+    let (finish, bytes) = run_with(rt, &[], &input, 100, &[], &[])?;
+    let page = output.rsplit('|').next().unwrap_or("");
+    assert_eq!(rt; finish.status, 0);
+    assert_eq!(rt; bytes.as_slice(), page.as_bytes());
+    Ok(())
+}
+
+#[test]
+fn areas_and_effects_are_run(rt: HostRuntime) -> Result<(), Fail> {
+    let rows = [
+        (
+            "component 1|area side {|signal x = 1|cleanup \"bye\"|<i>{x}</i>|}|<b>\"end\"</b>|---|phase lane dispose side dispose side set side.x = 2",
+            "1.1.1 dispose now 1 before 0|1.1.2 dispose now 0 before 1|1.1.3 disposed 1|journal 1.1 disposed 1|cleanup \"bye\"|<b>end</b>",
+        ),
+        (
+            "component 1|area a { area b { signal y = 1 } signal x = 2 }|---|phase lane dispose a.b dispose a",
+            "1.1.1 dispose now 1 before 0|1.1.2 dispose now 1 before 1|journal 1.1 disposed 2|journal 1.2 disposed 1|",
+        ),
+        (
+            "component 1|area a { area b {} }|---|phase lane dispose a|phase lane dispose a dispose a.b",
+            "1.1.1 dispose now 2 before 0|journal 1.1 disposed 2|journal 1.2 disposed 1|2.1.1 dispose now 0 before 2|2.1.2 dispose now 0 before 1|",
+        ),
+        (
+            "component 1|<p>area a { signal x = 1 {x} }</p>|---|phase lane set a.x = 2|phase lane dispose a|phase lane get a.x",
+            "1.1.1 set 1|journal 1.1 write 0 2|2.1.1 dispose now 1 before 0|journal 2.1 disposed 1|3.1.1 disposed 1|<p></p>",
+        ),
+        (
+            "component 1|signal a = 1|effect log = a * 10|---|phase lane pump set a = 2 pump pump",
+            "1.1.1 pump ran 1 same 0 gone 0 left 0|1.1.2 set 2|1.1.3 pump ran 1 same 0 gone 0 left 0|1.1.4 pump ran 0 same 1 gone 0 left 0|journal 1.1 ran 1 10|journal 1.2 write 0 2|journal 1.3 ran 1 20|",
+        ),
+        (
+            "component 1|area side { signal x = 1 effect e = x }|---|phase lane dispose side pump",
+            "1.1.1 dispose now 1 before 0|1.1.2 pump ran 0 same 0 gone 1 left 0|journal 1.1 disposed 1|",
+        ),
+        (
+            "component 1|area a { signal x = 1 area b { effect e = x } }|---|phase lane pump dispose a pump",
+            "1.1.1 pump ran 1 same 0 gone 0 left 0|1.1.2 dispose now 2 before 0|1.1.3 pump ran 0 same 0 gone 1 left 0|journal 1.1 ran 1 1|journal 1.2 disposed 2|journal 1.3 disposed 1|",
+        ),
+        (
+            "component 1|signal a = 1|effect e = a|---|phase lane pump|phase lane pump set a = 2|phase lane pump",
+            "1.1.1 pump ran 1 same 0 gone 0 left 0|journal 1.1 ran 1 1|2.1.1 pump ran 0 same 1 gone 0 left 0|2.1.2 set 1|journal 2.1 write 0 2|3.1.1 pump ran 1 same 0 gone 0 left 0|journal 3.1 ran 1 2|",
+        ),
+    ];
+    for (input, output) in rows {
+        writes(&rt, input, output)?;
+    }
+    Ok(())
+}
+
+#[test]
+fn stores_are_edited(rt: HostRuntime) -> Result<(), Fail> {
+    let rows = [
+        (
+            "component 1|store items max 4 { title = \"\" }|<ul>each items {<li>{row.title}</li>}</ul>|---|phase lane insert items 1 { title = \"a\" } insert items 2 { title = \"b\" } insert items 3 { title = \"c\" }|phase lane move items 3 to 0 remove items 1",
+            "1.1.1 edit 1 done|1.1.2 edit 2 done|1.1.3 edit 3 done|journal 1.1 edit 1 0|journal 1.2 edit 1 1|journal 1.3 edit 1 2|2.1.1 edit 1 done|2.1.2 edit 2 done|journal 2.1 edit 1 0|journal 2.2 edit 1 1|<ul><li>c</li><li>b</li></ul>",
+        ),
+        (
+            "component 1|store s max 1 { t = 0 }|each s {<p>{row.t}</p>}|---|phase lane insert s 1 { t = 5 } insert s 1 { t = 6 } insert s 2 { t = 7 }",
+            "1.1.1 edit 1 done|1.1.2 edit 2 present|1.1.3 edit 3 max|journal 1.1 edit 1 0|journal 1.2 edit 1 1|journal 1.3 edit 1 2|<p>5</p>",
+        ),
+        (
+            "component 1|store items max 4 { title = \"\" }|each items { {row.title} }|---|phase lane insert items 7 { title = \"a\" } set items[7].title = \"b\"|phase lane set items[7].title = \"c\" remove items 8",
+            "1.1.1 edit 1 done|1.1.2 norow|journal 1.1 edit 1 0|2.1.1 set 1|2.1.2 edit 2 absent|journal 2.1 write 0 \"c\"|journal 2.2 edit 1 0|c",
+        ),
+        (
+            "component 1|store s max 2 { t = 0 }|each s {<i>{row.t}</i>}|---|phase lane insert s 1 { t = 5 }|phase lane set s[1].t = 6 remove s 1 insert s 1 { t = 7 }|phase lane get s[1].t",
+            "1.1.1 edit 1 done|journal 1.1 edit 1 0|2.1.1 set 1|2.1.2 edit 2 done|2.1.3 edit 3 done|journal 2.1 write 0 6|journal 2.2 edit 1 0|journal 2.3 edit 1 1|3.1.1 get 7 at 0|<i>7</i>",
+        ),
+        (
+            "component 1|area side {|store s max 2 { t = 0 }|each s {<i>{row.t}</i>}|}|<b>\"end\"</b>|---|phase lane insert side.s 1 { t = 5 } dispose side insert side.s 2 { t = 6 }",
+            "1.1.1 edit 1 done|1.1.2 dispose now 1 before 0|1.1.3 disposed 1|journal 1.1 edit 1 0|journal 1.2 disposed 1|<b>end</b>",
+        ),
+        (
+            "component 1|signal user = \"Ann\"|signal done = 1|store todos max 50 { title = \"\" ok = 0 }|memo left = 3 - done|<h1>\"Todos of \" {user}</h1>|if left { <p>{left} \" left\"</p> }|<ul>each todos { <li data-id={row.key}>{row.title} if row.ok { \" (done)\" }</li> }</ul>|---|phase|lane insert todos 1 { title = \"Milk\" } insert todos 2 { title = \"Bread\" ok = 1 } set done = 2|phase|lane set user = \"Bob\"",
+            "1.1.1 edit 1 done|1.1.2 edit 2 done|1.1.3 set 3|journal 1.1 edit 1 0|journal 1.2 edit 1 1|journal 1.3 write 1 2|2.1.1 set 1|journal 2.1 write 0 \"Bob\"|<h1>Todos of Bob</h1><p>1 left</p><ul><li data-id=\"1\">Milk</li><li data-id=\"2\">Bread (done)</li></ul>",
+        ),
+    ];
+    for (input, output) in rows {
+        writes(&rt, input, output)?;
+    }
+    Ok(())
+}
+
+/// Adds the name of the memo with this number.
+fn put_name(text: &mut Vec<u8>, number: u32) -> Result<(), Fail> {
+    text.push(b'm')?;
+    for unit in [1000, 100, 10, 1] {
+        text.push(b'0' + (number / unit % 10) as u8)?;
+    }
+    Ok(())
+}
+
+/// A signal, a chain of memos that each add 1 to the one before, and the last one shown: 4,096 nodes.
+fn chain(alloc: Global) -> Result<Vec<u8>, Fail> {
+    let mut text = lines(alloc, "component 1|signal a = 1|memo m0000 = a")?;
+    for number in 1..4094u32 {
+        text.extend_from_slice(b"\nmemo ")?;
+        put_name(&mut text, number)?;
+        text.extend_from_slice(b" = ")?;
+        put_name(&mut text, number - 1)?;
+        text.extend_from_slice(b" + 1")?;
+    }
+    text.extend_from_slice(b"\n<p>{m4093}</p>\n---\nphase lane set a = 2 get m4093")?;
+    Ok(text)
+}
+
+#[test]
+fn a_chain_of_the_most_nodes_is_gone_through(rt: HostRuntime) -> Result<(), Fail> {
+    let input = chain(rt.alloc())?;
+    let (finish, bytes) = run_with(&rt, &[], &input, 65536, &[], &[])?;
+    let got = Answer {
+        phase: 1,
+        lane: 1,
+        op: 2,
+        reply: Reply::Got(Code::Number(4095), 4095),
+    };
+    assert_eq!(rt; finish.answers.as_slice().last(), Some(&got));
+    assert_eq!(rt; bytes.as_slice(), b"<p>4095</p>".as_slice());
     Ok(())
 }
 
