@@ -1,9 +1,11 @@
 -- The rows of a store, as their fields take what is shown.
-use Rattle.std.proofs.Common.{◌≡◌, ℕ, zero, suc, ◌+◌, not, cond, nat_lt, Bool, true, false, List, [], ◌∷◌, length, get_or, set, Option, Some, None, slice_get, refl, sym, ap, subst, ◌∙◌, arith}
+use Rattle.std.proofs.Common.{◌≡◌, ℕ, zero, suc, ◌+◌, not, cond, nat_lt, Bool, true, false, List, [], ◌∷◌, length, set, Option, Some, None, slice_get, refl, sym, ap, subst, ◌∙◌, arith}
 use Rattle.std.specs.List.{All, IsDistinct, prefix_len}
 use Rattle.std.specs.Option.{option_map_or}
 use Rattle.std.proofs.lemmas.Bool.Decides.{nat_tests}
+use Rattle.std.proofs.lemmas.List.{set-set}
 use Rattle.std.proofs.lemmas.List.Elements.{All-get_or}
+use Rattle.std.proofs.lemmas.Option.{slice_get_within, get_or_from_slice_get}
 use Rattle.std.proofs.lemmas.Map.Keys.{IsDistinct-head, IsDistinct-tail}
 use Rattle.values.specs.declared.code.Code.{Code}
 use Rattle.values.specs.declared.code.Code.TheVariants.{Empty}
@@ -20,7 +22,7 @@ use Rattle.plain_evaluation.specs.Place.{Place, of_row}
 use Rattle.plan_meaning.specs.Layout.{row_of}
 use Rattle.held_rows.specs.Shown.{shown_at, fields_shown, row_shown}
 use Rattle.held_rows.specs.Writing.{with_field_shown}
-use Rattle.held_rows.proofs.Upto.{upto, whole, upto_got, upto_more, upto_all, got_within, got_here, got_set, set_got, set_twice}
+use Rattle.held_rows.proofs.Upto.{upto, whole, upto_got, upto_more, upto_all, got_set, set_got}
 
 -- ---- where the row with a key is
 
@@ -42,17 +44,13 @@ passed_over (r ∷ rows) (suc n) row distinct is =
 
 pub place_found : (rows : List Row) (n : ℕ) (row : Row) → IsDistinct is_same (keys rows) → slice_get rows n ≡ Some row → place_of row.key rows ≡ Some n
 place_found rows n row distinct is =
-    let lt = got_within rows n row is in
+    let lt = slice_get_within rows n row is in
     let test : nat_lt n (length rows) ≡ true = grind (arith, nat_tests) in
     ap (λ (k : ℕ). cond (nat_lt k (length rows)) (Some k) None) (passed_over rows n row distinct is) ∙ ap (λ (b : Bool). cond b (Some n) None) test
 
 -- each row has so many fields
 pub row_wide : (rows : List Row) (width place : ℕ) (row : Row) → All (λ (r : Row). length r.fields ≡ width) rows → slice_get rows place ≡ Some row → length row.fields ≡ width
-row_wide rows width place row all is =
-    let lt = got_within rows place row is in
-    let here : Some (get_or rows place row) ≡ Some row = sym (got_here rows place row lt) ∙ is in
-    let same : get_or rows place row ≡ row = cc in
-    subst (λ (r : Row). length r.fields ≡ width) same (All-get_or (λ (r : Row). length r.fields ≡ width) rows place row lt all)
+row_wide rows width place row all is = subst (λ (r : Row). length r.fields ≡ width) (get_or_from_slice_get rows place row row is) (All-get_or (λ (r : Row). length r.fields ≡ width) rows place row (slice_get_within rows place row is) all)
 
 -- ---- one field
 
@@ -86,7 +84,7 @@ module _ (places : List Place) (values : ℕ → Code) (store : ℕ) where
       now = row_upto field row
 
       there : slice_get (set rows place now) place ≡ Some now
-      there = got_set rows place now (got_within rows place row is)
+      there = got_set rows place now (slice_get_within rows place row is)
 
       apart : IsDistinct is_same (keys (set rows place now))
       apart = subst (IsDistinct is_same) (sym (keys-set rows place row now is refl)) distinct
@@ -105,7 +103,7 @@ module _ (places : List Place) (values : ℕ → Code) (store : ℕ) where
           let shown : shown_at places values (2 + store + field) (Some row.key) code ≡ values n = ap (λ (o : Option ℕ). option_map_or values o code) found in
           ap (λ (o : Option ℕ). option_map_or (λ k. (field_set (set rows place now) row.key field (values k)).rows) o (set rows place now)) found
           ∙ set_of_row (set rows place now) place now field (values n) apart there
-          ∙ set_twice rows place now (with_field now field (values n))
+          ∙ set-set rows place now (with_field now field (values n))
           ∙ ap (λ (fs : List Code). set rows place (record row { fields = fs })) (ap (λ (c : Code). set now.fields field c) (sym shown) ∙ more)
 
 -- ---- rows of the plan

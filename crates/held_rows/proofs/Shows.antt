@@ -4,6 +4,7 @@ use Rattle.std.specs.Prelude.{unwrap_or}
 use Rattle.std.specs.List.{list_all, list_any}
 use Rattle.std.specs.Option.{option_map, option_map_or}
 use Rattle.std.proofs.lemmas.Bool.{eqb-true}
+use Rattle.std.proofs.lemmas.Option.{slice_get_within}
 use Rattle.values.specs.declared.code.Code.{Code}
 use Rattle.values.specs.declared.code.Code.TheVariants.{Empty}
 use Rattle.values.specs.declared.plan.Kind.{Kind}
@@ -44,7 +45,6 @@ use Rattle.held_rows.specs.Shown.{shown_at, fields_shown, row_shown, holding_sho
 use Rattle.held_rows.proofs.AtStart.{value_told, signal_held, store_fits, field_told}
 use Rattle.held_rows.proofs.Given.{IsField, GivenSo, are_given}
 use Rattle.held_rows.proofs.Shown.{holding_here}
-use Rattle.held_rows.proofs.Upto.{got_within}
 
 -- ---- rows of a store
 
@@ -286,7 +286,7 @@ module _ (component : Component) (state : HeldState) (kept : IsKept component) (
           where
             below : (n : ℕ) (code : Code) → slice_get row.fields n ≡ Some code → n < store.width
             below n code at =
-                let within = got_within row.fields n code at in
+                let within = slice_get_within row.fields n code at in
                 let long : length row.fields ≡ store.width = wide_at store.width store.rows place row (and_cases (list_all (λ (r : Row). length r.fields == store.width) store.rows) (nat_le (length store.rows) store.max) (store_fits component kept state is id store was)).0 row_at in
                 omega arith
 

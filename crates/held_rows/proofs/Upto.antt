@@ -45,16 +45,6 @@ pub whole-map : {A : Type 0} (change : A → A) (first : ℕ) (xs : List A) → 
 whole-map change first [] = refl
 whole-map change first (x ∷ xs) = ap (λ more. change x ∷ more) (whole-map change (suc first) xs)
 
-pub got_within : {A : Type 0} (xs : List A) (n : ℕ) (x : A) → slice_get xs n ≡ Some x → n < length xs
-got_within [] n x is = cc
-got_within (y ∷ xs) zero x is = omega arith
-got_within (y ∷ xs) (suc n) x is = let lt = got_within xs n x is in omega arith
-
-pub got_here : {A : Type 0} (xs : List A) (n : ℕ) (none : A) → n < length xs → slice_get xs n ≡ Some (get_or xs n none)
-got_here [] n none lt = absurd (omega arith)
-got_here (y ∷ xs) zero none lt = refl
-got_here (y ∷ xs) (suc n) none lt = got_here xs n none (omega arith)
-
 pub got_set : {A : Type 0} (xs : List A) (n : ℕ) (x : A) → n < length xs → slice_get (set xs n x) n ≡ Some x
 got_set [] n x lt = absurd (omega arith)
 got_set (y ∷ xs) zero x lt = refl
@@ -64,8 +54,3 @@ pub set_got : {A : Type 0} (xs : List A) (n : ℕ) (x : A) → slice_get xs n �
 set_got [] n x is = refl
 set_got (y ∷ xs) zero x is = let same : y ≡ x = cc in ap (λ z. z ∷ xs) (sym same)
 set_got (y ∷ xs) (suc n) x is = ap (λ more. y ∷ more) (set_got xs n x is)
-
-pub set_twice : {A : Type 0} (xs : List A) (n : ℕ) (x y : A) → set (set xs n x) n y ≡ set xs n y
-set_twice [] n x y = refl
-set_twice (z ∷ xs) zero x y = refl
-set_twice (z ∷ xs) (suc n) x y = ap (λ more. z ∷ more) (set_twice xs n x y)

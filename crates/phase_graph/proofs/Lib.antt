@@ -22,4 +22,5 @@ pub mod Running
 pub mod Effects
 pub mod Rows
 pub mod Pumps
+pub mod Relayings
 pub mod Puttings

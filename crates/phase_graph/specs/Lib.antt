@@ -2,3 +2,4 @@ pub mod Graph
 pub mod Way
 pub mod Table
 pub mod Pumping
+pub mod Relaying

@@ -11,7 +11,9 @@ mod making;
 mod phases;
 mod pumping;
 mod putting;
+mod relaying;
 mod table;
 mod writing;
 
 pub use graph::Graph;
+pub use relaying::Relaid;

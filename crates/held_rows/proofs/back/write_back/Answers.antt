@@ -1,3 +1,4 @@
+use Rattle.std.proofs.lemmas.Option.{slice_get-get_or}
 use Rattle.std.proofs.Common.{◌≡◌, ◌+◌, ◌<◌, ℕ, suc, List, Option, length, get_or, set, sym, ap, subst, ◌∙◌, arith}
 use Rattle.store_fields.specs.Edits.{KeyedRows}
 use Rattle.sources.specs.Rows.{value_in}
@@ -8,7 +9,7 @@ use Rattle.held_rows.specs.Shown.{holding_shown, held_shown}
 use Rattle.held_rows.specs.Writing.{HasIds}
 use Rattle.held_rows.proofs.AtStart.{few_holdings, field_ids}
 use Rattle.held_rows.proofs.Shown.{all_shown, shown_is_of}
-use Rattle.held_rows.proofs.Upto.{upto, upto_next, upto_more, got_here}
+use Rattle.held_rows.proofs.Upto.{upto, upto_next, upto_more}
 use Rattle.held_rows.proofs.back.write_back.Goals as goal
 use Rattle.held_rows.proofs.back.write_back.Goals.{In-loop-id, After-loop-id}
 
@@ -49,7 +50,7 @@ loop-id-preserved c =
     c.write_holding.ensures
     ∙ ap (λ (s : HeldState). with_held s (with_holding s.held c.loop-id.id (change c.loop-id.id (holding_of s.held c.loop-id.id)))) c.loop-id.invariant
     ∙ (λ i. with_held c.args.held.now (record c.args.held.now.held { holdings = set (upto change 0 c.loop-id.id holdings) c.loop-id.id (change (here i) (upto_next change 0 c.loop-id.id holdings nothing i)) }))
-    ∙ ap (λ (hs : List Holding). with_held c.args.held.now (record c.args.held.now.held { holdings = hs })) (upto_more change 0 c.loop-id.id holdings (get_or holdings c.loop-id.id nothing) (got_here holdings c.loop-id.id nothing below))
+    ∙ ap (λ (hs : List Holding). with_held c.args.held.now (record c.args.held.now.held { holdings = hs })) (upto_more change 0 c.loop-id.id holdings (get_or holdings c.loop-id.id nothing) (slice_get-get_or holdings c.loop-id.id nothing below))
     ∙ ap (λ (n : ℕ). with_held c.args.held.now (record c.args.held.now.held { holdings = upto change 0 n holdings })) next
 
 pub returns-clause-shown : goal.returns-clause-shown
