@@ -1,7 +1,7 @@
 //! The journal.
-ghost use Rattle.std.specs.Prelude.{◌≡◌, ◌<◌, ◌+◌, [], ◌∷◌, ◌++◌, length, replicate, slice_get, OnOk, OnErr, MatchOption, Some, None};
+ghost use Rattle.std.specs.Prelude.{◌≡◌, ◌<◌, ◌+◌, ◌-◌, List, [], ◌∷◌, ◌++◌, length, replicate, slice_get, OnOk, OnErr, MatchOption, Some, None};
 ghost use Rattle.std.specs.Option.{option_map, option_copied};
-ghost use Rattle.run_items.specs.Journal.{base_of, meets_of, remarks_of};
+ghost use Rattle.run_items.specs.Journal.{JournalPhase, base_of, meets_of, remarks_of};
 ghost use Rattle.script_items.specs.Script.{numbered};
 ghost use Rattle.still_graph.specs.Journal.{no_counts, phase_kept};
 
@@ -87,6 +87,16 @@ impl Journal {
         Some(self.kept(phase)?.entries.as_slice())
     }
 
+    /// What was noted in the last phase. Nothing where there is none.
+    pub(crate) fn last_entries(&self) -> &[Noted]
+        ensures { (earlier : List JournalPhase) (phase : JournalPhase) → self.now.phases ≡ earlier ++ phase ∷ [] → result.now ≡ phase.entries }
+    {
+        match last(self.phases.as_slice()) {
+            Some(kept) => kept.entries.as_slice(),
+            None => &[],
+        }
+    }
+
     /// How often the pass met a node that another had claimed. `None` exactly where there is no such phase or pass.
     pub fn meets(&self, phase: u32, pass: u32) -> Option<u64>
         ensures { result ≡ meets_of self.now.phases phase pass }
@@ -120,6 +130,12 @@ impl Journal {
         let place = phase.checked_sub(1)?;
         at(self.phases.as_slice(), place as usize)
     }
+}
+
+fn last(phases: &[Kept]) -> Option<&Kept>
+    ensures { option_copied result ≡ slice_get phases.now (length phases.now - 1) }
+{
+    at(phases, phases.len().saturating_sub(1))
 }
 
 fn at(phases: &[Kept], place: usize) -> Option<&Kept>

@@ -2,10 +2,11 @@
 #![tactic(auto)]
 
 mod begun;
-mod folding;
 mod journal;
 mod loads;
+mod making;
 mod phases;
+mod putting;
 mod settling;
 mod still;
 
