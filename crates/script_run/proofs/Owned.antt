@@ -21,15 +21,15 @@ use Rattle.run_meaning.specs.Words.{In}
 use Rattle.run_meaning.proofs.Areas.{owners_long}
 use Rattle.run_meaning.proofs.Bounds.{in_range}
 
-each_append : {X : Type 0} (P : X → Type 0) (xs ys : List X) → Each P xs → Each P ys → Each P (xs ++ ys)
+pub each_append : {X : Type 0} (P : X → Type 0) (xs ys : List X) → Each P xs → Each P ys → Each P (xs ++ ys)
 each_append P [] ys h g = g
 each_append P (x ∷ xs) ys h g = (h.0, each_append P xs ys h.1 g)
 
-in_left : (n : ℕ) (xs ys : List ℕ) → In n xs → In n (xs ++ ys)
+pub in_left : (n : ℕ) (xs ys : List ℕ) → In n xs → In n (xs ++ ys)
 in_left n [] ys i = absurd i
 in_left n (x ∷ xs) ys i = ⊎_elim (λ (e : x ≡ n). inl e) (λ j. inr (in_left n xs ys j)) i
 
-in_right : (n : ℕ) (xs ys : List ℕ) → In n ys → In n (xs ++ ys)
+pub in_right : (n : ℕ) (xs ys : List ℕ) → In n ys → In n (xs ++ ys)
 in_right n [] ys i = i
 in_right n (x ∷ xs) ys i = inr (in_right n xs ys i)
 

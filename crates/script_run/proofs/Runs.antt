@@ -15,6 +15,7 @@ use Rattle.run_meaning.specs.Phase.{Phase}
 use Rattle.run_meaning.specs.Report.{answer_lines, journal_lines}
 use Rattle.run_meaning.specs.Run.{Settled, more, after, phases_of, script_of, answers_of_lanes, answers_from, answers_of, journal_of, none, Runs, held_arrived}
 use Rattle.report_text.proofs.LineLemmas.{report_from-push}
+use Rattle.run_weave.specs.Lanes.{told}
 use Rattle.script_run.specs.declared.run.Ran.{Ran}
 use Rattle.script_run.specs.Lanes.{IsMade, lanes_at}
 use Rattle.script_run.specs.Ran.{IsRanTo, GoesOn}
@@ -23,6 +24,7 @@ use Rattle.still_graph.specs.declared.still.Stage.TheVariants.{Made}
 use Rattle.still_graph.specs.Still.{StillState, IsSettledAfter}
 use Rattle.script_run.proofs.Lists.{map_last}
 use Rattle.script_run.proofs.Asked.{lanes_behind}
+use Rattle.script_run.proofs.Made.{told_ops}
 
 phases_last : (steps : List Settled) (s : Settled) → phases_of (steps ++ s ∷ []) ≡ phases_of steps ++ s.phase ∷ []
 phases_last steps s = map_last (λ (t : Settled). t.phase) steps s
@@ -64,14 +66,15 @@ report_more true component ps p n old new k was is =
     is ∙ ap (λ (t : List ℕ). t ++ lines_if true component.texts n p) was ∙ sym (report_from-push component.texts 1 n ps p k)
 report_more false component ps p n old new k was is = is ∙ append-nil old ∙ was
 
-pub runs_on : (component : Component) (script : List (List (List ScriptOp))) (asked : Bool) (before : ℕ) (old new : Ran) (mid : StillState) (p : Phase)
-    → before < length script → (so_far : GoesOn component (take before script) asked old) → IsMade (phases_of so_far.to.steps) old.still (lanes_at script (before + 1)) p mid
+pub runs_on : (component : Component) (script : List (List (List ScriptOp))) (asked : Bool) (before : ℕ) (old new : Ran) (mid : StillState) (q : Phase)
+    → before < length script → (so_far : GoesOn component (take before script) asked old) → IsMade (phases_of so_far.to.steps) old.still (lanes_at script (before + 1)) q mid
     → mid.component ≡ component → Settles mid new.still
-    → new.answers ≡ old.answers ++ answers_of_lanes (before + 1) 1 p.lanes
-    → new.report.items ≡ old.report.items ++ lines_if asked component.texts (before + 1) p
+    → new.answers ≡ old.answers ++ answers_of_lanes (before + 1) 1 (told q).lanes
+    → new.report.items ≡ old.report.items ++ lines_if asked component.texts (before + 1) (told q)
     → new.pending ≡ pending new.still.component new.still.state.held
     → GoesOn component (take (before + 1) script) asked new
-runs_on component script asked before old new mid p l so_far made same settles answers lines waiting =
+runs_on component script asked before old new mid q l so_far made same settles answers lines waiting =
+    let p : Phase = told q in
     let steps : List Settled = so_far.to.steps in
     let past : List Phase = phases_of steps in
     let ended = settles.ended past p made.ended in
@@ -83,7 +86,7 @@ runs_on component script asked before old new mid p l so_far made same settles a
       keys = so_far.to.keys;
       steps = steps ++ s ∷ [];
       runs = more s ended.0 so_far.to.runs (made.opened ∙ ap (λ (c : Component). opened_of c old.still.state.held) so_far.to.component_is) made.is_phase (ended.1 ∙ ap (λ (c : Component). after c p ended.0) same);
-      script_is = ap script_of last ∙ script_last past p script before l so_far.to.script_is made.ops_are;
+      script_is = ap script_of last ∙ script_last past p script before l so_far.to.script_is (told_ops q ∙ made.ops_are);
       answers_are = ap answers_of last ∙ answers_last 1 past p (before + 1) (omega arith) ∙ ap (λ (t : List Answer). t ++ answers_of_lanes (before + 1) 1 p.lanes) so_far.to.answers_are ∙ sym answers;
       journal_is = ap journal_of last ∙ sym ended.2.journal;
       report_is = report_more asked component past p (before + 1) old.report.items new.report.items (omega arith) so_far.to.report_is lines ∙ ap (report_if asked component) (sym last);

@@ -7,6 +7,7 @@ use Rattle.std.proofs.lemmas.List.{append-nil, length-map, take_more, take_all, 
 use Rattle.std.proofs.lemmas.Option.{slice_get_within, get_or_from_slice_get}
 use Rattle.values.specs.declared.plan.Noted.{Noted}
 use Rattle.component_items.specs.Kept.{IsKept}
+use Rattle.store_fields.specs.declared.edit.Edit.{Edit}
 use Rattle.script_items.specs.declared.operation.ScriptOp.{ScriptOp}
 use Rattle.script_items.specs.Script.{numbered, lanes_of, op_at}
 use Rattle.run_items.specs.declared.answer.Answer.{Answer}
@@ -20,11 +21,13 @@ use Rattle.run_meaning.specs.Run.{answers_of_lane}
 use Rattle.run_history.specs.Going.{Going, start_of, just_opened}
 use Rattle.run_history.specs.Calls.{Call, MadeCall, Calls, Makes, CallsLead, calls_by}
 use Rattle.run_weave.specs.Lanes.{IsQuietly, Speaks, LaneSpeaks, ended, lane_of, LanesSpeak}
+use Rattle.phase_graph.specs.Way.{no_edits}
 use Rattle.still_graph.specs.declared.still.Stage.{Stage}
 use Rattle.still_graph.specs.declared.still.Stage.TheVariants.{Open, Ended}
 use Rattle.still_graph.specs.Still.{StillState, opened_in, start_in, IsOpenAt}
 use Rattle.script_run.specs.Lanes.{IsOpenOver, IsSamePhase, IsAtOp, DoesNext, HasDone, HaveDone, first_ops, lanes_at}
 use Rattle.script_run.proofs.Lists.{folds_last, each_last, map_last}
+use Rattle.script_run.proofs.Noted.{edits_after, edits_rest, told_rest, edits_spoke, told_spoke}
 
 abbrev made : Call → MadeCall
 made call = record { pass = 1; call = call }
@@ -56,15 +59,17 @@ rested past x lane d rests at quiet = record {
   open_at = at.open_at;
   by_one = at.by_one;
   speaks = rests (opened_in x) (calls_by 1 at.calls) lane d at.speaks quiet;
+  edits = at.edits ∙ ap (λ (t : List Edit). t ∷ []) (sym (edits_rest (opened_in x) lane d quiet));
+  numbers = told_rest (opened_in x) lane d quiet ∙ at.numbers;
 }
 
 abbrev pub Goes : List Phase → StillState → StillState → Call → Type 0
-Goes past x y call = (g : Going) (pass : ℕ) → IsOpenAt past g x → (block : List Noted) × (h : Going) × Calls (start_in past x) g block h pass call × IsOpenAt past h y
+Goes past x y call = (g : Going) → IsOpenAt past g x → (block : List Noted) × (h : Going) × Calls (start_in past x) g block h 1 call × IsOpenAt past h y
 
 -- with one more call
-pub spoke : (past : List Phase) (x y : StillState) (lane : List Done) (call : Call) (d : Done) → SpeaksOn → IsAtOp past x lane → y ≡ record x { graph = y.graph } → Goes past x y call → Speaks (opened_in x) call d.op d.reply → IsAtOp past y (lane ++ d ∷ [])
-spoke past x y lane call d on at same goes speaks =
-    let step = goes at.going 1 at.open_at in
+pub spoke : (past : List Phase) (x y : StillState) (lane : List Done) (call : Call) (d : Done) → SpeaksOn → IsAtOp past x lane → y ≡ record x { graph = y.graph } → y.graph.edits ≡ edits_after call x.graph.edits → Goes past x y call → Speaks (opened_in x) call d.op d.reply → IsAtOp past y (lane ++ d ∷ [])
+spoke past x y lane call d on at same edits goes speaks =
+    let step = goes at.going at.open_at in
     let e : opened_in y ≡ opened_in x = same_opened x y same in record {
       calls = at.calls ++ made call ∷ [];
       going = step.1;
@@ -72,7 +77,13 @@ spoke past x y lane call d on at same goes speaks =
       open_at = step.3;
       by_one = each_last (λ m. m.pass ≡ 1) at.calls (made call) at.by_one refl;
       speaks = subst (λ (o : Opened). LaneSpeaks o (calls_by 1 (at.calls ++ made call ∷ [])) (lane ++ d ∷ [])) (sym e) (subst (λ (cs : List Call). LaneSpeaks (opened_in x) cs (lane ++ d ∷ [])) (sym (calls_by_last at.calls call)) (on (opened_in x) (calls_by 1 at.calls) lane call d at.speaks speaks));
+      edits = edits_spoke (opened_in x) lane call d x.graph.edits y.graph.edits speaks edits at.edits;
+      numbers = told_spoke (start_in past x) (opened_in x) lane call d at.going step.1 step.0 speaks step.2 at.numbers;
     }
+
+-- no operation was made yet
+pub started : (past : List Phase) (x : StillState) → IsOpenAt past just_opened x → x.graph.edits ≡ no_edits 1 → IsAtOp past x []
+started past x opens none = record { calls = []; going = just_opened; lead = refl; open_at = opens; by_one = tt; speaks = ended; edits = none; numbers = refl }
 
 -- ---- the same phase
 
@@ -86,14 +97,14 @@ stays_open x y is same = record {
 }
 
 pub same_self : (x : StillState) → IsSamePhase x x
-same_self x = record { rest = refl; plan = refl; base = refl; passes = refl }
+same_self x = record { rest = refl; plan = refl; base = refl; room = refl }
 
 pub same_more : (x y z : StillState) → IsSamePhase x y → IsSamePhase y z → IsSamePhase x z
 same_more x y z first second = record {
   rest = second.rest ∙ ap (λ (w : StillState). record w { graph = z.graph }) first.rest;
   plan = second.plan ∙ first.plan;
   base = second.base ∙ first.base;
-  passes = second.passes ∙ first.passes;
+  room = second.room ∙ first.room;
 }
 
 -- ---- answers
@@ -154,10 +165,10 @@ no_calls : (o : Opened) → LanesSpeak o [] []
 no_calls o zero = ended
 no_calls o (suc pass) = ended
 
-pub no_lanes_done : (phase : ℕ) (asked : List (List ScriptOp)) (x : StillState) (answers : List Answer) → asked ≡ [] → HaveDone phase asked x x answers answers
-no_lanes_done phase asked x answers none = record {
+pub no_lanes_done : (phase : ℕ) (asked : List (List ScriptOp)) (x : StillState) (answers : List Answer) → x.graph.edits ≡ no_edits 1 → asked ≡ [] → HaveDone phase asked x x answers answers
+no_lanes_done phase asked x answers edits none = record {
   same = same_self x;
-  done = λ past opens. ([], record { calls = []; going = just_opened; lead = refl; open_at = opens; speak = no_calls (opened_in x) }, sym none, sym (append-nil answers));
+  done = λ past opens. ([], record { calls = []; going = just_opened; lead = refl; open_at = opens; speak = no_calls (opened_in x); edits = edits; numbers = refl }, sym none, sym (append-nil answers));
 }
 
 one_pass : (calls : List MadeCall) → AllByRecursion (λ m. m.pass ≡ 1) calls → AllByRecursion (λ m. (0 < m.pass) × (m.pass ≤ 1)) calls
@@ -172,14 +183,14 @@ alone : (o : Opened) (calls : List MadeCall) (lane : List Done) → LaneSpeaks o
 alone o calls lane s zero l = s
 alone o calls lane s (suc i) l = absurd (omega arith)
 
-pub one_lane_done : (phase : ℕ) (ops : List ScriptOp) (asked : List (List ScriptOp)) (x y : StillState) (first behind : List Answer) → MakeAll → HasDone phase ops x y first behind → asked ≡ ops ∷ [] → HaveDone phase asked x y first behind
-one_lane_done phase ops asked x y first behind make has is = record {
+pub one_lane_done : (phase : ℕ) (ops : List ScriptOp) (asked : List (List ScriptOp)) (x y : StillState) (first behind : List Answer) → MakeAll → x.graph.edits ≡ no_edits 1 → HasDone phase ops x y first behind → asked ≡ ops ∷ [] → HaveDone phase asked x y first behind
+one_lane_done phase ops asked x y first behind make edits has is = record {
   same = has.same;
   done = λ past opens.
-      let d = has.done past (record { calls = []; going = just_opened; lead = refl; open_at = opens; by_one = tt; speaks = ended }) in
+      let d = has.done past (started past x opens edits) in
       let at : IsAtOp past y d.0 = d.1 in (
         d.0 ∷ [],
-        record { calls = at.calls; going = at.going; lead = at.lead; open_at = at.open_at; speak = make (opened_in y) at.calls (d.0 ∷ []) (one_pass at.calls at.by_one) (alone (opened_in y) at.calls d.0 at.speaks) },
+        record { calls = at.calls; going = at.going; lead = at.lead; open_at = at.open_at; speak = make (opened_in y) at.calls (d.0 ∷ []) (one_pass at.calls at.by_one) (alone (opened_in y) at.calls d.0 at.speaks); edits = at.edits; numbers = at.numbers },
         ap (λ (t : List ScriptOp). t ∷ []) d.2 ∙ sym is,
         d.3 ∙ ap (λ (t : List Answer). first ++ t) (sym (append-nil (answers_of_lane phase 1 1 d.0))),
       );

@@ -3,6 +3,7 @@ use Rattle.std.specs.Prelude.{◌≡◌, ℕ, List, [], ◌∷◌, ◌++◌, Opt
 use Rattle.values.specs.declared.code.Code.{Code}
 use Rattle.run_meaning.specs.Phase.{Phase}
 use Rattle.run_meaning.specs.Run.{held_arrived, after}
+use Rattle.phase_edits.specs.Told.{AreTold}
 use Rattle.still_graph.specs.declared.still.Stage.TheVariants.{Made, Settled}
 use Rattle.still_graph.specs.Still.{StillState, IsSettledAfter, HasEnded}
 
@@ -11,5 +12,5 @@ pub record Settles (old new : StillState) : Type 0 where
   pub component : new.component ≡ old.component
   pub stage : new.stage ≡ Settled
   pub made : old.stage ≡ Made → (keys : ℕ → Option Code) × (new.state.held ≡ held_arrived keys old.state.held) × IsSettledAfter [] new
-  pub ended : (past : List Phase) (p : Phase) → HasEnded past p old → (keys : ℕ → Option Code) × (new.state.held ≡ after old.component p keys) × IsSettledAfter (past ++ p ∷ []) new
-  pub settled : old.stage ≡ Settled → (keys : ℕ → Option Code) × (new.state.held ≡ held_arrived keys old.state.held) × ((past : List Phase) → IsSettledAfter past old → IsSettledAfter past new)
+  pub ended : (past : List Phase) (p : Phase) → HasEnded past p old → (keys : ℕ → Option Code) × (new.state.held ≡ after old.component p keys) × IsSettledAfter (past ++ p ∷ []) new × AreTold p new.verdicts
+  pub settled : old.stage ≡ Settled → (keys : ℕ → Option Code) × (new.state.held ≡ held_arrived keys old.state.held) × ((past : List Phase) → IsSettledAfter past old → IsSettledAfter past new) × (new.verdicts ≡ old.verdicts)

@@ -1,17 +1,19 @@
 //! The operations of a lane, made on the graph.
-ghost use Rattle.std.specs.Prelude.{◌≡◌, ◌∷◌, ◌++◌, [], All, OnOk};
-ghost use Rattle.script_items.specs.KeptFor.{MaySet, MayGet, NamesMembers};
-ghost use Rattle.script_items.specs.Members.{members_of};
+ghost use Rattle.std.specs.Prelude.{◌≡◌, ◌∷◌, ◌++◌, [], ℕ, All, Contains, IfOk, OnOk};
+ghost use Rattle.script_items.specs.KeptFor.{MaySet, MayGet, MayEdit, NamesMembers};
+ghost use Rattle.script_items.specs.Members.{members_of, an_area};
 ghost use Rattle.run_items.specs.declared.answer.Reply.{Reply as ReplyValue};
 ghost use Rattle.run_weave.specs.Lanes as weave;
-ghost use Rattle.script_run.specs.Lanes.{IsOpenOver, IsSamePhase, DoesNext, HasDone, first_ops};
-ghost use Rattle.script_run.specs.Today.{SetsOrGets, OpsRun};
+ghost use Rattle.script_run.specs.Lanes.{IsOpenOver, IsSamePhase, IsFresh, MayNote, HasRoom, DoesNext, HasDone, first_ops};
+ghost use Rattle.script_run.specs.Today.{OpsRun};
 
 use outside::Gate;
 use run_items::{Answer, Answers, Reply};
 use run_weave::laws::lanes_go_on;
 use script_items::{Script, ScriptOp};
+use std::alloc::Global;
 use still_graph::{Still, Target};
+use store_fields::{Edit, Verdict};
 use values::{Code, NoMemory, Stop};
 
 /// What an operation is told whose call was stopped.
@@ -40,6 +42,16 @@ fn get_reply(answer: Result<(Code, u32), Stop>) -> Reply
 {
     match answer {
         Ok((code, number)) => Reply::Got(code, number),
+        Err(why) => stopped(why),
+    }
+}
+
+/// What an edit is told for now. What comes of it is known when the phase is settled.
+fn edit_reply(answer: Result<u32, Stop>) -> Reply
+    ensures { weave.IsEditReply answer result }
+{
+    match answer {
+        Ok(number) => Reply::Edited(number, Verdict::Absent),
         Err(why) => stopped(why),
     }
 }
@@ -75,24 +87,61 @@ fn do_get(still: &mut Still, id: u32, key: Option<Code>) -> Reply
     }
 }
 
-/// Makes the operation, which is a set or a get.
-fn do_op(still: &mut Still, op: &ScriptOp) -> Reply
+/// Runs the effects.
+fn do_pump(still: &mut Still) -> Reply
+    requires open { IsOpenOver still.old }
+    ensures same { IsSamePhase still.old still.new }
+    ensures does { DoesNext still.old ScriptOp.Pump result still.new }
+{
+    lanes_go_on();
+    Reply::Pumped(still.pump())
+}
+
+/// Disposes the area with the owner.
+fn do_dispose(still: &mut Still, owner: u32) -> Reply
+    requires open { IsOpenOver still.old }
+    requires named { Contains (members_of still.old.component.items) (an_area owner) }
+    ensures same { IsSamePhase still.old still.new }
+    ensures does { DoesNext still.old (ScriptOp.Dispose owner) result still.new }
+{
+    lanes_go_on();
+    Reply::Disposal(still.dispose(owner))
+}
+
+/// Notes the edit of a store, of which the graph takes a copy.
+fn do_edit(still: &mut Still, alloc: Global, edit: &Edit) -> Result<Reply, NoMemory>
+    requires open { IsOpenOver still.old }
+    requires room { MayNote still.old }
+    ensures same { OnOk result (IsSamePhase still.old still.new) }
+    ensures does { IfOk result (λ reply. DoesNext still.old (ScriptOp.Change edit.now) reply still.new) }
+{
+    lanes_go_on();
+    let owner = still.owner_of(edit.store);
+    let asked = edit.copy(alloc)?;
+    Ok(edit_reply(still.edit(1, owner, asked)))
+}
+
+/// Makes the operation.
+fn do_op(still: &mut Still, alloc: Global, op: &ScriptOp) -> Result<Reply, NoMemory>
     requires open { IsOpenOver still.old }
     requires named { NamesMembers (members_of still.old.component.items) op.now }
-    requires today { SetsOrGets op.now }
-    ensures same { IsSamePhase still.old still.new }
-    ensures does { DoesNext still.old op.now result still.new }
+    requires room { HasRoom still.old op.now }
+    ensures same { OnOk result (IsSamePhase still.old still.new) }
+    ensures does { IfOk result (λ reply. DoesNext still.old op.now reply still.new) }
 {
     match op {
-        ScriptOp::Set { id, key, code } => do_set(still, *id, *key, *code),
-        ScriptOp::Get { id, key } => do_get(still, *id, *key),
-        ScriptOp::Pump | ScriptOp::Dispose { .. } | ScriptOp::Change(_) => Reply::NoRow,
+        ScriptOp::Set { id, key, code } => Ok(do_set(still, *id, *key, *code)),
+        ScriptOp::Get { id, key } => Ok(do_get(still, *id, *key)),
+        ScriptOp::Pump => Ok(do_pump(still)),
+        ScriptOp::Dispose { owner } => Ok(do_dispose(still, *owner)),
+        ScriptOp::Change(edit) => do_edit(still, alloc, edit),
     }
 }
 
 /// Makes the operation behind a step through the gate, and adds its answer. Operations count from 1.
 fn run_op<G: Gate>(
     still: &mut Still,
+    alloc: Global,
     op: &ScriptOp,
     phase: u32,
     number: u32,
@@ -101,12 +150,12 @@ fn run_op<G: Gate>(
 ) -> Result<(), NoMemory>
     requires open { IsOpenOver still.old }
     requires named { NamesMembers (members_of still.old.component.items) op.now }
-    requires today { SetsOrGets op.now }
+    requires room { HasRoom still.old op.now }
     ensures { OnOk result ((reply : ReplyValue) × IsSamePhase still.old still.new × DoesNext still.old op.now reply still.new
         × (answers.new ≡ answers.old ++ record { phase = phase; lane = 1; op = number; reply = reply } ∷ [])) }
 {
     gate.step(1, number);
-    let reply = do_op(still, op);
+    let reply = do_op(still, alloc, op)?;
     answers.push(Answer {
         phase,
         lane: 1,
@@ -119,12 +168,14 @@ fn run_op<G: Gate>(
 /// After want of memory some of them may be made.
 pub(crate) fn run_lane<G: Gate>(
     still: &mut Still,
+    alloc: Global,
     script: &Script,
     phase: u32,
     gate: &G,
     answers: &mut Answers,
 ) -> Result<(), NoMemory>
     requires open { IsOpenOver still.old }
+    requires fresh { IsFresh still.old (first_ops script.now phase) }
     requires named { All (NamesMembers (members_of still.old.component.items)) (first_ops script.now phase) }
     requires today { OpsRun (first_ops script.now phase) }
     ensures { OnOk result (HasDone phase (first_ops script.now phase) still.old still.new answers.old answers.new) }
@@ -132,7 +183,7 @@ pub(crate) fn run_lane<G: Gate>(
     for before in 0..u32::MAX {
         match script.op(phase, 1, before + 1) {
             None => return Ok(()),
-            Some(op) => run_op(still, op, phase, before + 1, gate, answers)?,
+            Some(op) => run_op(still, alloc, op, phase, before + 1, gate, answers)?,
         }
     }
     Ok(())

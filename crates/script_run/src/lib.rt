@@ -3,8 +3,10 @@
 
 mod lane;
 mod phase;
+mod room;
 mod run;
 mod settling;
+mod telling;
 mod today;
 
 pub use run::{Ran, run_script};

@@ -12,7 +12,7 @@ ghost use Rattle.run_meaning.specs.Phase.{Phase};
 ghost use Rattle.run_meaning.specs.Report.{answer_lines, journal_lines};
 ghost use Rattle.run_meaning.specs.Run.{answers_of_lanes};
 ghost use Rattle.phase_graph.specs.Graph.{ticks_of};
-ghost use Rattle.script_run.specs.Lanes.{IsOpenOver, HaveDone, IsMade, lanes_at};
+ghost use Rattle.script_run.specs.Lanes.{IsOpenOver, IsFresh, HaveDone, IsMade, first_ops, lanes_at};
 ghost use Rattle.still_graph.specs.Loads.{has_load};
 ghost use Rattle.script_run.specs.Ran.{GoesOn};
 ghost use Rattle.still_graph.specs.Still.{opened_in, IsSettledAfter, IsOpenAt, HasEnded};
@@ -20,8 +20,10 @@ ghost use Rattle.script_run.specs.Today.{LanesRun, RunsToday};
 ghost use Rattle.still_graph.specs.declared.still.Stage.TheVariants as stage;
 
 use crate::lane::run_lane;
+use crate::room::edit_room;
 use crate::run::Ran;
 use crate::settling::settle_rounds;
+use crate::telling::tell_edits;
 use outside::{Gate, Loader};
 use report_text::put_phase;
 use run_items::{Answer, Answers};
@@ -34,12 +36,14 @@ use values::NoMemory;
 /// Makes the operations of all lanes of the phase, of which there is one at the most.
 fn run_lanes<G: Gate>(
     still: &mut Still,
+    alloc: Global,
     script: &Script,
     phase: u32,
     gate: &G,
     answers: &mut Answers,
 ) -> Result<(), NoMemory>
     requires open { IsOpenOver still.old }
+    requires fresh { IsFresh still.old (first_ops script.now phase) }
     requires named { All (All (NamesMembers (members_of still.old.component.items))) (lanes_at script.now phase) }
     requires today { LanesRun (lanes_at script.now phase) }
     ensures { OnOk result (HaveDone phase (lanes_at script.now phase) still.old still.new answers.old answers.new) }
@@ -49,10 +53,11 @@ fn run_lanes<G: Gate>(
     if lanes == 0 {
         return Ok(());
     }
-    run_lane(still, script, phase, gate, answers)
+    run_lane(still, alloc, script, phase, gate, answers)
 }
 
-/// Opens the phase, makes its operations and ends it. After want of memory some of them may be made.
+/// Opens the phase, makes its operations and ends it. Edits are not told yet what comes of them. After want of memory some
+/// of the operations may be made.
 fn make_phase<G: Gate>(
     still: &mut Still,
     alloc: Global,
@@ -75,8 +80,8 @@ fn make_phase<G: Gate>(
 {
     calls_make_phases();
     targets_of_components_fit();
-    still.begin(alloc, 1, 0)?;
-    run_lanes(still, script, phase, gate, answers)?;
+    still.begin(alloc, 1, edit_room(script, phase))?;
+    run_lanes(still, alloc, script, phase, gate, answers)?;
     still.end();
     Ok(())
 }
@@ -89,7 +94,7 @@ fn answers_behind(answers: &Answers, first: usize) -> &[Answer]
     &answers.as_slice()[first..]
 }
 
-/// Adds the lines of the phase that has just ended, where they are asked for. Phases count from 1.
+/// Adds the lines of the phase that was settled last, where they are asked for. Phases count from 1.
 fn put_lines(
     out: &mut Vec<u8>,
     asked: bool,
@@ -97,7 +102,7 @@ fn put_lines(
     phase: u32,
     answers: &[Answer],
 ) -> Result<(), NoMemory>
-    ensures { OnOk result ((past : List Phase) (p : Phase) → HasEnded past p still.now → phase ≡ suc (length past) → answers.now ≡ answers_of_lanes phase 1 p.lanes →
+    ensures { OnOk result ((past : List Phase) (p : Phase) → IsSettledAfter (past ++ p ∷ []) still.now → p.opened.plan.owners ≡ plan_owners still.now.component → phase ≡ suc (length past) → answers.now ≡ answers_of_lanes phase 1 p.lanes →
         out.new.items ≡ out.old.items ++ (if asked then answer_lines still.now.component.texts phase 1 p.lanes ++ journal_lines still.now.component.texts p.opened.plan.owners phase p.entries else [])) }
 {
     if !asked {
@@ -111,8 +116,8 @@ fn put_lines(
     put_phase(out, texts, phase, answers, owners, entries)
 }
 
-/// Runs the phase behind as many as were run before: opens it, makes its operations, ends it, adds its lines where they
-/// are asked for, and settles.
+/// Runs the phase behind as many as were run before: opens it, makes its operations, ends and settles it, tells its edits
+/// what came of them, and adds its lines where they are asked for.
 pub(crate) fn run_phase<L: Loader, G: Gate>(
     ran: &mut Ran,
     alloc: Global,
@@ -138,8 +143,9 @@ pub(crate) fn run_phase<L: Loader, G: Gate>(
     let phase = before + 1;
     let first = ran.answers.len();
     make_phase(&mut ran.still, alloc, script, phase, gate, &mut ran.answers)?;
+    ran.pending = settle_rounds(&mut ran.still, alloc, loader, rounds)?;
+    tell_edits(&ran.still, &mut ran.answers, first);
     let answers = answers_behind(&ran.answers, first);
     put_lines(&mut ran.report, asked, &ran.still, phase, answers)?;
-    ran.pending = settle_rounds(&mut ran.still, alloc, loader, rounds)?;
     Ok(())
 }

@@ -2,32 +2,21 @@
 ghost use Rattle.std.specs.Prelude.{◌≡◌, ◌≤◌, ◌<◌, ◌↔◌, ℕ, All, IsTrue, length, unwrap_or};
 ghost use Rattle.script_items.specs.Script.{numbered};
 ghost use Rattle.script_run.specs.Lanes.{first_ops, lanes_at};
-ghost use Rattle.script_run.specs.Today.{RunsToday, LanesRun, OpsRun, SetsOrGets, most_ops};
+ghost use Rattle.script_run.specs.Today.{RunsToday, LanesRun, OpsRun, most_ops};
 
 use component_items::Component;
-use script_items::{Script, ScriptOp};
+use script_items::Script;
 use still_graph::has_load;
 
-/// Whether the operation is a set or a get.
-fn sets_or_gets(op: &ScriptOp) -> bool
-    ensures { IsTrue result ↔ SetsOrGets op.now }
-{
-    match op {
-        ScriptOp::Set { .. } | ScriptOp::Get { .. } => true,
-        ScriptOp::Pump | ScriptOp::Dispose { .. } | ScriptOp::Change(_) => false,
-    }
-}
-
-/// Whether the first lane of the phase has sets and gets alone, and not too many to be numbered. Where there is no
-/// such lane, it has none.
+/// Whether the first lane of the phase has not too many operations to be numbered. Where there is no such lane, it has
+/// none.
 fn ops_run(script: &Script, phase: u32) -> bool
     ensures { IsTrue result ↔ OpsRun (first_ops script.now phase) }
 {
     for before in 0..u32::MAX {
         match script.op(phase, 1, before + 1) {
             None => return true,
-            Some(op) if sets_or_gets(op) => {}
-            Some(_) => return false,
+            Some(_op) => {}
         }
     }
     false
@@ -56,8 +45,7 @@ fn script_runs(script: &Script) -> bool
     true
 }
 
-/// Whether the component and the script have no form that is not run yet: a load, a phase of more than one lane, or an
-/// operation that is neither a set nor a get.
+/// Whether the component and the script have no form that is not run yet: a load, or a phase of more than one lane.
 pub fn runs_today(component: &Component, script: &Script) -> bool
     ensures { IsTrue result ↔ RunsToday component.now script.now }
 {

@@ -13,7 +13,7 @@ get-requires-clause-row c = get_row_fits c.args.still.now c.requires.open c.args
 pub returns-in-Row-clause-does : goal.returns-in-Row-clause-does
 returns-in-Row-clause-does c = λ past lane at.
     spoke past c.args.still.now c.get.new.self lane (get c.in-Row.row c.get.result) (record { op = op.Get c.args.id c.args.key; reply = c.get_reply.result })
-    c.lanes_go_on.ensures.speaks at c.get.ensures.rest (c.get.ensures.call past) (ap row_in (sym c.in-Row.ensures), c.get_reply.ensures)
+    c.lanes_go_on.ensures.speaks at c.get.ensures.rest c.get.ensures.edits (λ g. c.get.ensures.call past g 1) (ap row_in (sym c.in-Row.ensures), c.get_reply.ensures)
 
 pub returns-in-NoRow-clause-does : goal.returns-in-NoRow-clause-does
 returns-in-NoRow-clause-does c = λ past lane at.

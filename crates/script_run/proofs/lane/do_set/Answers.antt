@@ -13,7 +13,7 @@ set-requires-clause-row c = set_row_fits c.args.still.now c.requires.open c.args
 pub returns-in-Row-clause-does : goal.returns-in-Row-clause-does
 returns-in-Row-clause-does c = λ past lane at.
     spoke past c.args.still.now c.set.new.self lane (set c.in-Row.row c.args.code c.set.result) (record { op = op.Set c.args.id c.args.key c.args.code; reply = c.set_reply.result })
-    c.lanes_go_on.ensures.speaks at c.set.ensures.rest (c.set.ensures.call past) (ap row_in (sym c.in-Row.ensures), refl, c.set_reply.ensures)
+    c.lanes_go_on.ensures.speaks at c.set.ensures.rest c.set.ensures.edits (λ g. c.set.ensures.call past g 1) (ap row_in (sym c.in-Row.ensures), refl, c.set_reply.ensures)
 
 pub returns-in-NoRow-clause-does : goal.returns-in-NoRow-clause-does
 returns-in-NoRow-clause-does c = λ past lane at.

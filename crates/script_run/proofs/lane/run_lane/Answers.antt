@@ -4,7 +4,7 @@ use Rattle.script_items.specs.KeptFor.{NamesMembers}
 use Rattle.script_items.specs.Members.{members_of}
 use Rattle.script_run.specs.Lanes.{first_ops}
 use Rattle.still_graph.specs.Still.{StillState}
-use Rattle.script_run.specs.Today.{SetsOrGets}
+use Rattle.script_run.proofs.EditRoom.{has_room}
 use Rattle.script_run.proofs.Lists.{all_at}
 use Rattle.script_run.proofs.Steps.{stays_open, op_found, none_done, one_more_done, all_done, none_at}
 use Rattle.script_run.proofs.lane.run_lane.Goals as goal
@@ -28,11 +28,11 @@ run_op-requires-clause-named g c κs within =
     let same : c.loop-before.still.component ≡ c.args.still.now.component = ap (λ (x : StillState). x.component) c.loop-before.invariant.same.rest in
     subst (λ (component : Component). NamesMembers (members_of component.items) c.in-Some.op.now) (sym same) (all_at (NamesMembers (members_of c.args.still.now.component.items)) ops c.loop-before.before c.in-Some.op.now c.requires.named at)
 
-pub run_op-requires-clause-today : goal.run_op-requires-clause-today
-run_op-requires-clause-today g c κs within =
+pub run_op-requires-clause-room : goal.run_op-requires-clause-room
+run_op-requires-clause-room g c κs within =
     let ops = first_ops c.args.script.now c.args.phase in
     let at : slice_get ops c.loop-before.before ≡ Some c.in-Some.op.now = op_found c.args.script.now c.args.phase c.loop-before.before (Some c.in-Some.op.now) c.in-Some.ensures in
-    all_at SetsOrGets ops c.loop-before.before c.in-Some.op.now c.requires.today.each at
+    has_room c.args.still.now c.loop-before.still ops c.args.phase c.loop-before.before c.in-Some.op.now c.args.answers.now c.loop-before.answers c.requires.fresh c.loop-before.invariant at
 
 pub loop-before-preserved : goal.loop-before-preserved
 loop-before-preserved g c =

@@ -10,7 +10,7 @@ use Rattle.script_run.proofs.phase.run_lanes.Goals as goal
 pub returns-then-lanes-eq0 : goal.returns-then-lanes-eq0
 returns-then-lanes-eq0 g c =
     let count : c.unwrap_or-lanes.result ≡ unwrap_or (lanes_of c.args.script.now c.args.phase) 0 = c.unwrap_or-lanes.ensures ∙ ap (λ (r : Option ℕ). unwrap_or r 0) c.lanes.ensures.count in
-    no_lanes_done c.args.phase (lanes_at c.args.script.now c.args.phase) c.args.still.now c.args.answers.now (no_lanes_at c.args.script.now c.args.phase c.unwrap_or-lanes.result count c.if-lanes-eq0.true)
+    no_lanes_done c.args.phase (lanes_at c.args.script.now c.args.phase) c.args.still.now c.args.answers.now c.requires.fresh.edits (no_lanes_at c.args.script.now c.args.phase c.unwrap_or-lanes.result count c.if-lanes-eq0.true)
 
 pub returns : goal.returns
 returns g c =
@@ -20,4 +20,4 @@ returns g c =
     let asked : List (List ScriptOp) = lanes_at c.args.script.now c.args.phase in
     let one : asked ≡ ops ∷ [] = one_lane_at c.args.script.now c.args.phase c.unwrap_or-lanes.result count some c.requires.today.one in
     on_ok_weaker {P = HasDone c.args.phase ops c.args.still.now c.run_lane.new.still c.args.answers.now c.run_lane.new.answers} c.run_lane.result
-    (λ has. one_lane_done c.args.phase ops asked c.args.still.now c.run_lane.new.still c.args.answers.now c.run_lane.new.answers c.lanes_make_all_calls.ensures has one) c.run_lane.ensures
+    (λ has. one_lane_done c.args.phase ops asked c.args.still.now c.run_lane.new.still c.args.answers.now c.run_lane.new.answers c.lanes_make_all_calls.ensures c.requires.fresh.edits has one) c.run_lane.ensures

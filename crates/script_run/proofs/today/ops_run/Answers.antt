@@ -1,14 +1,12 @@
-use Rattle.std.proofs.Common.{◌≡◌, slice_get, Some, refl, arith}
+use Rattle.std.proofs.Common.{◌≡◌, slice_get, Some, arith}
 use Rattle.std.proofs.lemmas.Option.{slice_get_within}
 use Rattle.script_run.specs.Lanes.{first_ops}
-use Rattle.script_run.specs.Today.{SetsOrGets}
 use Rattle.script_run.proofs.Steps.{op_found}
-use Rattle.script_run.proofs.Asked.{one_more}
 use Rattle.script_run.proofs.today.ops_run.Goals as goal
 
 pub loop-before-preserved : goal.loop-before-preserved
 loop-before-preserved c =
     let ops = first_ops c.args.script.now c.args.phase in
-    let at : slice_get ops c.loop-before.before ≡ Some c.in-Some.op.now = op_found c.args.script.now c.args.phase c.loop-before.before (Some c.in-Some.op.now) c.in-Some.ensures in
-    let within = slice_get_within ops c.loop-before.before c.in-Some.op.now at in
-    (omega arith, one_more SetsOrGets ops c.loop-before.before c.in-Some.op.now at c.loop-before.invariant.1 (c.if-sets_or_gets.ensures.0 refl))
+    let at : slice_get ops c.loop-before.before ≡ Some c.in-Some._op.now = op_found c.args.script.now c.args.phase c.loop-before.before (Some c.in-Some._op.now) c.in-Some.ensures in
+    let within = slice_get_within ops c.loop-before.before c.in-Some._op.now at in
+    omega arith
