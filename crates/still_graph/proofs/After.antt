@@ -1,9 +1,7 @@
 -- The phase that has ended: what its rows show, and what it adds to the phases before it.
-use Rattle.std.proofs.Common.{◌≡◌, ◌≢◌, ◌⊎◌, ℕ, suc, ◌+◌, ◌<◌, ◌≤◌, Bool, true, false, List, [], ◌∷◌, ◌++◌, length, Option, Some, None, inl, inr, slice_get, slice_index_or, refl, sym, ap, subst, ◌∙◌, arith}
+use Rattle.std.proofs.Common.{◌≡◌, ◌≢◌, ◌⊎◌, ℕ, suc, ◌+◌, ◌<◌, ◌≤◌, Bool, true, false, List, [], ◌∷◌, ◌++◌, length, Some, None, inl, inr, slice_get, slice_index_or, refl, sym, ap, subst, ◌∙◌, arith}
 use Rattle.std.specs.Prelude.{unwrap_or}
 use Rattle.std.proofs.lemmas.Option.{slice_get_within}
-use Rattle.values.specs.declared.code.Code.{Code}
-use Rattle.values.specs.declared.plan.Kind.{Kind}
 use Rattle.values.specs.declared.plan.Kind.TheVariants as kind
 use Rattle.values.specs.declared.plan.Noted.{Noted}
 use Rattle.values.specs.declared.plan.Plan.{Plan}
@@ -18,7 +16,6 @@ use Rattle.plain_evaluation.specs.Written.{state_of, written}
 use Rattle.plain_evaluation.proofs.Differ.{places_are_apart}
 use Rattle.plain_evaluation.proofs.Fitting.{rows_of_held}
 use Rattle.plan_meaning.specs.Carried.{AreApart}
-use Rattle.plan_meaning.specs.Layout.{places_of}
 use Rattle.plan_meaning.proofs.Owners.{lawful}
 use Rattle.plan_meaning.proofs.Rows.{are_apart}
 use Rattle.run_items.specs.Journal.{JournalPhase}

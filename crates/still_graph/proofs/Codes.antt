@@ -1,30 +1,27 @@
 -- The values of the sources of a layout, against its lines and its rows.
-use Rattle.std.proofs.Common.{◌≡◌, ℕ, zero, suc, ◌+◌, ◌-◌, ◌<◌, ◌≤◌, ◌&&◌, ◌||◌, not, if◌then◌else◌, inl, inr, Bool, true, false, List, [], ◌∷◌, ◌++◌, map, take, length, slice_get, Option, Some, None, is_some, refl, sym, ap, subst, ◌∙◌, append_assoc, arith, length-append}
-use Rattle.std.specs.Prelude.{position, unwrap_or, IsSomeAnd}
-use Rattle.std.specs.List.{flat_map, filter, list_any}
+use Rattle.std.proofs.Common.{◌≡◌, ℕ, zero, suc, ◌+◌, ◌-◌, ◌<◌, ◌≤◌, ◌&&◌, ◌||◌, not, if◌then◌else◌, inl, inr, Bool, true, false, List, [], ◌∷◌, ◌++◌, map, length, slice_get, Option, Some, None, is_some, refl, sym, ap, ◌∙◌, arith, length-append}
+use Rattle.std.specs.Prelude.{position, unwrap_or}
+use Rattle.std.specs.List.{flat_map, list_any}
 use Rattle.std.specs.Option.{option_map, option_and_then}
 use Rattle.std.proofs.lemmas.List.{length-map}
 use Rattle.std.proofs.lemmas.Option.{slice_get_within}
 use Rattle.values.specs.declared.code.Code.{Code}
 use Rattle.values.specs.declared.code.Code.TheVariants.{Empty}
 use Rattle.values.specs.declared.expr.Expr.{Expr}
-use Rattle.values.specs.declared.plan.Kind.{Kind}
 use Rattle.values.specs.declared.plan.Kind.TheVariants as kind
-use Rattle.values.specs.declared.plan.PlanNode.{PlanNode}
 use Rattle.values.specs.Evaluation.{is_same}
-use Rattle.values.specs.PlanValues.{is_derived}
 use Rattle.store_fields.specs.declared.row.Row.{Row}
 use Rattle.store_fields.specs.Edits.{place_of as row_place}
 use Rattle.store_fields.proofs.KeyLemmas.{same_itself, same_true}
 use Rattle.plain_evaluation.specs.Fits.{keys_differ}
 use Rattle.plain_evaluation.specs.Held.{Held, rows_held}
-use Rattle.plain_evaluation.specs.Written.{State, state_of, RowAround, Says, given, loaded, derived, kind_said, Written}
+use Rattle.plain_evaluation.specs.Written.{state_of, Says, given, loaded, derived, Written}
 use Rattle.plain_evaluation.proofs.Every.{Every}
 use Rattle.plain_evaluation.proofs.Places.{not_true}
 use Rattle.plan_meaning.specs.Layout.{is_computed, rows_of}
 use Rattle.plan_meaning.proofs.Rows.{sources_of, computed_of, true_or_false, at_map, append_at, passes}
 use Rattle.plan_lines.specs.Lines.{Placed, placed_of}
-use Rattle.still_graph.specs.Sources.{code_said, codes_said, row_held, field_held, source_held, codes_held}
+use Rattle.still_graph.specs.Sources.{code_said, codes_said, field_held, source_held, codes_held}
 use Rattle.still_graph.proofs.HeldLines.{IsFieldOf, SaysHeld, IsHeldLine}
 
 -- ---- the row with a key

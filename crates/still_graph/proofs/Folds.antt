@@ -1,10 +1,9 @@
 -- What a phase leaves of held state, step by step.
-use Rattle.std.proofs.Common.{◌≡◌, ℕ, List, length, Some, sym, ap, ◌∙◌}
+use Rattle.std.proofs.Common.{◌≡◌, ℕ, List, length, Some, ap, ◌∙◌}
 use Rattle.values.specs.declared.plan.Noted.{Noted}
 use Rattle.store_fields.specs.declared.edit.Edit.{Edit}
 use Rattle.store_fields.specs.declared.edit.Verdict.{Verdict}
 use Rattle.component_items.specs.declared.component.Component.{Component}
-use Rattle.component_items.specs.Kept.{IsKept}
 use Rattle.sources.specs.declared.opening.Opened as rows
 use Rattle.sources.specs.Rows.{value_in}
 use Rattle.plain_evaluation.specs.Place.{Place}

@@ -1,10 +1,9 @@
 -- The settling of a phase that leaves the rows that there are.
-use Rattle.std.proofs.Common.{◌≡◌, ◌≢◌, ℕ, ◌+◌, ◌≤◌, false, true, List, [], ◌∷◌, ◌++◌, length, None, Some, slice_get, refl, sym, ap, subst, ◌∙◌}
+use Rattle.std.proofs.Common.{◌≡◌, ℕ, ◌+◌, ◌≤◌, false, true, List, [], ◌∷◌, ◌++◌, length, Some, slice_get, refl, sym, ap, subst, ◌∙◌}
 use Rattle.values.specs.declared.plan.Kind.TheVariants as kind
 use Rattle.values.specs.declared.plan.Plan.{Plan}
 use Rattle.values.specs.declared.plan.PlanNode.{PlanNode}
 use Rattle.store_fields.specs.declared.edit.Verdict.{Verdict}
-use Rattle.sources.specs.declared.opening.Opened as rows
 use Rattle.sources.specs.Rows.{value_in}
 use Rattle.plain_evaluation.specs.Held.{Held, arrived_held}
 use Rattle.plain_evaluation.specs.Place.{Place}
@@ -15,13 +14,11 @@ use Rattle.held_state.specs.State.{HeldState, IsOf, with_held}
 use Rattle.run_items.specs.Journal.{JournalPhase}
 use Rattle.run_meaning.proofs.Areas.{owners_long}
 use Rattle.run_meaning.specs.Phase.{Phase}
-use Rattle.run_meaning.specs.Run.{after}
 use Rattle.phase_graph.specs.Graph.{GraphState}
-use Rattle.phase_edits.specs.Told.{AreTold}
 use Rattle.held_rows.specs.Shown.{held_shown}
 use Rattle.still_graph.specs.Loads.{has_load}
 use Rattle.still_graph.specs.Settling.{Settles, all_keep_rows}
-use Rattle.still_graph.specs.Still.{StillState, HasRun, IsSettledAfter, HasEnded}
+use Rattle.still_graph.specs.Still.{StillState, IsSettledAfter, HasEnded}
 use Rattle.still_graph.specs.Stands.{IsStill}
 use Rattle.still_graph.specs.declared.still.Stage.TheVariants.{Made, Settled, Ended}
 use Rattle.still_graph.proofs.After.{closed, live_still, keep_es, few_ticks, entries_are, written_is, ran_before}

@@ -1,10 +1,9 @@
 -- What a phase noted, and what is held behind it.
 use Rattle.std.proofs.Common.{◌≡◌, ℕ, zero, suc, ◌+◌, ◌&&◌, if◌then◌else◌, Bool, true, false, List, [], ◌∷◌, Option, Some, None, map, slice_index_or, refl, sym, ap, ◌∙◌, arith}
-use Rattle.std.specs.Prelude.{IsSome, unwrap_or, filter_map}
+use Rattle.std.specs.Prelude.{unwrap_or, filter_map}
 use Rattle.values.specs.declared.plan.Fact.{Fact}
 use Rattle.values.specs.declared.plan.Fact.TheVariants as fact
 use Rattle.values.specs.declared.plan.Noted.{Noted}
-use Rattle.store_fields.specs.declared.edit.Edit.{Edit}
 use Rattle.store_fields.specs.declared.edit.Verdict.{Verdict}
 use Rattle.script_items.specs.Script.{numbered}
 use Rattle.component_items.specs.declared.component.Component.{Component}

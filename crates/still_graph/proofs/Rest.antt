@@ -1,5 +1,5 @@
 -- Where sources have the values that the text gives them, and memos those of their expressions, all is plain evaluation.
-use Rattle.std.proofs.Common.{◌≡◌, ◌≢◌, ℕ, zero, suc, false, List, [], ◌∷◌, length, Option, Some, slice_get, refl, sym, ap, subst, ◌∙◌, arith}
+use Rattle.std.proofs.Common.{◌≡◌, ◌≢◌, ℕ, zero, suc, false, List, [], ◌∷◌, length, Some, slice_get, refl, sym, ap, subst, ◌∙◌, arith}
 use Rattle.values.specs.declared.code.Code.{Code}
 use Rattle.values.specs.declared.plan.Kind.{Kind}
 use Rattle.values.specs.declared.plan.Kind.TheVariants as kind
@@ -15,9 +15,8 @@ use Rattle.sources.specs.Rows.{code_in, value_in}
 use Rattle.plain_evaluation.specs.Fits.{RowsFit}
 use Rattle.plain_evaluation.specs.Held.{Held}
 use Rattle.plain_evaluation.specs.Keyed.{is_keyed}
-use Rattle.plain_evaluation.specs.Place.{Place}
 use Rattle.plain_evaluation.specs.Scratch.{scratch_in}
-use Rattle.plain_evaluation.specs.Written.{State, Says, given, loaded, derived, kind_said, Written, place_of, state_of, written_in}
+use Rattle.plain_evaluation.specs.Written.{State, given, kind_said, Written, place_of, state_of, written_in}
 use Rattle.plan_meaning.specs.Layout.{rows_of, places_of, node_of, plan_of}
 use Rattle.plan_meaning.specs.Settled.{AreSettled}
 use Rattle.plan_meaning.specs.Values.{row_values}

@@ -3,7 +3,7 @@ use Rattle.std.proofs.Common.{◌≡◌, ℕ, zero, suc, ◌+◌, List, [], ◌�
 use Rattle.std.specs.Option.{option_map_or}
 use Rattle.values.specs.declared.code.Code.{Code}
 use Rattle.store_fields.specs.declared.row.Row.{Row}
-use Rattle.store_fields.specs.Edits.{KeyedRows, with_rows}
+use Rattle.store_fields.specs.Edits.{with_rows}
 use Rattle.component_items.specs.declared.component.Component.{Component}
 use Rattle.plain_evaluation.specs.Held.{Holding, nothing, value, stored, arrived, Held, holding_of, rows_in, arrived_in, rows_held, arrived_held, value_held}
 use Rattle.plain_evaluation.specs.Place.{Place, place_at}

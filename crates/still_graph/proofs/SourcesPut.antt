@@ -1,6 +1,5 @@
 -- Sources that take their values, row by row.
-use Rattle.std.proofs.Common.{◌≡◌, ◌≢◌, ◌⊎◌, ℕ, ◌+◌, ◌<◌, ◌≤◌, List, [], ◌∷◌, ◌++◌, take, map, length, Some, inl, inr, slice_get, refl, sym, ap, ◌∙◌, arith}
-use Rattle.std.specs.List.{flat_map}
+use Rattle.std.proofs.Common.{◌≡◌, ◌≢◌, ◌⊎◌, ℕ, ◌+◌, ◌<◌, ◌≤◌, List, length, Some, inl, inr, slice_get, refl, sym, ap, ◌∙◌, arith}
 use Rattle.values.specs.declared.code.Code.{Code}
 use Rattle.values.specs.Packing.{unpacked}
 use Rattle.sources.specs.declared.opening.Opened as rows

@@ -1,23 +1,18 @@
 -- The first settling, and a further one.
-use Rattle.std.proofs.Common.{◌≡◌, ◌≢◌, ℕ, ◌+◌, ◌≤◌, false, true, List, [], ◌∷◌, length, Option, None, Some, slice_get, refl, sym, ap, subst, ◌∙◌, arith}
+use Rattle.std.proofs.Common.{◌≡◌, ℕ, ◌+◌, ◌≤◌, false, List, [], ◌∷◌, length, Some, slice_get, refl, sym, ap, subst, ◌∙◌, arith}
 use Rattle.values.specs.declared.code.Code.{Code}
 use Rattle.values.specs.declared.plan.Kind.{Kind}
 use Rattle.values.specs.declared.plan.Kind.TheVariants as kind
 use Rattle.values.specs.declared.plan.Plan.{Plan}
 use Rattle.values.specs.declared.plan.PlanNode.{PlanNode}
-use Rattle.values.specs.Packing.{unpacked}
 use Rattle.values.specs.PlanValues.{is_derived}
-use Rattle.component_items.specs.declared.component.Component.{Component}
-use Rattle.component_items.specs.Kept.{IsKept}
 use Rattle.store_fields.specs.declared.row.Row.{Row}
-use Rattle.sources.specs.declared.opening.Opened as rows
-use Rattle.plain_evaluation.specs.Held.{Held, rows_held, first_held, arrived_held}
+use Rattle.plain_evaluation.specs.Held.{Held, rows_held, arrived_held}
 use Rattle.plain_evaluation.specs.Keyed.{is_keyed}
 use Rattle.plain_evaluation.specs.Place.{Place}
-use Rattle.plain_evaluation.specs.Scratch.{pending}
-use Rattle.plain_evaluation.specs.Written.{State, state_of, given, kind_said, Written, place_of, written, written_in}
+use Rattle.plain_evaluation.specs.Written.{State, state_of, given, kind_said, Written, place_of, written}
 use Rattle.plain_evaluation.proofs.Begins.{first_begins}
-use Rattle.plan_meaning.specs.Layout.{rows_of, places_of, node_of, plan_of}
+use Rattle.plan_meaning.specs.Layout.{rows_of, places_of, node_of}
 use Rattle.plan_meaning.proofs.Rows.{row_among, at_map}
 use Rattle.phase_graph.specs.Graph.{GraphState}
 use Rattle.still_graph.specs.Loads.{has_load}
@@ -26,7 +21,7 @@ use Rattle.still_graph.specs.Still.{StillState, IsSettledAfter}
 use Rattle.still_graph.specs.Stands.{IsMade, IsStill}
 use Rattle.still_graph.specs.declared.still.Stage.TheVariants.{Made, Settled, Ended}
 use Rattle.still_graph.proofs.After.{fits_of, few_ticks}
-use Rattle.still_graph.proofs.HeldLines.{IsFieldOf, SaysHeld, is_held, nothing_pending}
+use Rattle.still_graph.proofs.HeldLines.{SaysHeld, is_held, nothing_pending}
 use Rattle.still_graph.proofs.Notes.{arrived_itself}
 use Rattle.still_graph.proofs.Rest.{fellow, row_value, SourcesAreSaid, IsBrought, at_rest}
 use Rattle.still_graph.proofs.Stays.{stands}

@@ -10,15 +10,15 @@ use Rattle.plain_evaluation.specs.Fits.{RowsFit}
 use Rattle.plain_evaluation.specs.Held.{Held, is_live}
 use Rattle.plain_evaluation.specs.Place.{Place, place_at, position_of}
 use Rattle.plain_evaluation.specs.Sound.{has_place}
-use Rattle.plain_evaluation.specs.Written.{State, state_of, place_of, Written, written, written_in}
+use Rattle.plain_evaluation.specs.Written.{state_of, place_of, written, written_in}
 use Rattle.plain_evaluation.proofs.Fitting.{rows_of_held}
 use Rattle.plan_meaning.specs.Layout.{rows_of, places_of, plan_of}
-use Rattle.plan_meaning.specs.There.{has_row, is_there}
+use Rattle.plan_meaning.specs.There.{has_row}
 use Rattle.plan_meaning.specs.Told.{kind_of_id, owner_of_id, store_of_id}
 use Rattle.plan_meaning.proofs.Rows.{map_at, row_among, among_has}
 use Rattle.plan_meaning.proofs.There.{due}
 use Rattle.plan_meaning.proofs.Told.{as_told}
-use Rattle.run_meaning.specs.Opened.{Target, at_dead, target_at, target_in}
+use Rattle.run_meaning.specs.Opened.{at_dead, target_at, target_in}
 use Rattle.run_history.specs.Going.{Start}
 use Rattle.phase_graph.specs.Way.{AreHome}
 use Rattle.still_graph.specs.Still.{StillState, opened_in}

@@ -1,20 +1,17 @@
 -- The settling of a phase after which rows may have come or gone.
-use Rattle.std.proofs.Common.{◌≡◌, ◌≢◌, ℕ, ◌+◌, ◌<◌, ◌≤◌, false, true, List, [], ◌∷◌, ◌++◌, map, length, Option, None, Some, slice_get, refl, sym, ap, subst, ◌∙◌, arith}
+use Rattle.std.proofs.Common.{◌≡◌, ◌≢◌, ℕ, ◌+◌, ◌<◌, ◌≤◌, false, true, List, [], ◌∷◌, ◌++◌, length, Option, None, Some, slice_get, refl, sym, ap, subst, ◌∙◌, arith}
 use Rattle.std.specs.Prelude.{IsSomeAnd}
 use Rattle.std.proofs.lemmas.List.{length-map}
 use Rattle.values.specs.declared.code.Code.{Code}
-use Rattle.values.specs.declared.plan.Kind.{Kind}
 use Rattle.values.specs.declared.plan.Kind.TheVariants as kind
 use Rattle.values.specs.declared.plan.Noted.{Noted}
 use Rattle.values.specs.declared.plan.Plan.{Plan}
 use Rattle.values.specs.declared.plan.PlanNode.{PlanNode}
 use Rattle.values.specs.Packing.{unpacked}
-use Rattle.values.specs.Plan.{IsLawful}
 use Rattle.values.specs.PlanValues.{is_derived}
 use Rattle.component_items.specs.declared.component.Component.{Component}
 use Rattle.component_items.specs.Kept.{IsKept}
 use Rattle.sources.specs.declared.body.Cause.{Cause}
-use Rattle.sources.specs.declared.body.Cause.TheVariants.{First, Changed}
 use Rattle.sources.specs.declared.opening.Opened as rows
 use Rattle.sources.specs.Rows.{value_in}
 use Rattle.plain_evaluation.specs.Fits.{RowsFit}
@@ -30,7 +27,7 @@ use Rattle.plan_meaning.proofs.Owners.{lawful}
 use Rattle.plan_meaning.proofs.Rows.{row_among, row_got, map_at, at_map}
 use Rattle.carried_rows.specs.Moved.{cause_moved, GoOver}
 use Rattle.carried_rows.specs.Named.{AreFresh}
-use Rattle.held_state.specs.State.{HeldState, IsOf, with_held}
+use Rattle.held_state.specs.State.{HeldState, IsOf}
 use Rattle.run_items.specs.Journal.{JournalPhase}
 use Rattle.run_meaning.specs.Edits.{held_edited, held_written, edits_of}
 use Rattle.run_meaning.specs.Entries.{disposed_in}
@@ -42,7 +39,7 @@ use Rattle.phase_edits.specs.Posts.{posted_edits, verdicts_by}
 use Rattle.phase_edits.specs.Told.{AreTold}
 use Rattle.held_rows.specs.Shown.{held_shown}
 use Rattle.still_graph.specs.Loads.{has_load}
-use Rattle.still_graph.specs.Next.{IsFolded, IsNext}
+use Rattle.still_graph.specs.Next.{IsNext}
 use Rattle.phase_graph.specs.Relaying.{GoesBetween}
 use Rattle.still_graph.specs.Settling.{Settles}
 use Rattle.still_graph.specs.Sources.{code_said, codes_said, ArePut}
@@ -50,7 +47,7 @@ use Rattle.still_graph.specs.Still.{StillState, HasRun, IsSettledAfter, HasEnded
 use Rattle.still_graph.specs.Stands.{still_of, IsStill}
 use Rattle.still_graph.specs.declared.making.Next.{Next}
 use Rattle.still_graph.specs.declared.still.Stage.TheVariants.{Made, Settled, Ended}
-use Rattle.still_graph.proofs.After.{es, last_of, fits_of, few_nodes, places_apart, entries_are, written_is, ran_before}
+use Rattle.still_graph.proofs.After.{es, last_of, fits_of, entries_are, written_is, ran_before}
 use Rattle.still_graph.proofs.Codes.{source_row, first_row, later_row, codes_few}
 use Rattle.still_graph.proofs.HeldLines.{SaysHeld, is_held, nothing_pending}
 use Rattle.still_graph.proofs.Notes.{after_edits}

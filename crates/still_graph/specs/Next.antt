@@ -1,12 +1,9 @@
 -- What a graph goes over to behind a phase.
 use Rattle.std.specs.Prelude.{◌≡◌, ℕ, List, length, Some}
-use Rattle.values.specs.declared.code.Code.{Code}
 use Rattle.values.specs.declared.plan.Noted.{Noted}
-use Rattle.store_fields.specs.declared.edit.Edit.{Edit}
 use Rattle.store_fields.specs.declared.edit.Verdict.{Verdict}
 use Rattle.component_items.specs.declared.component.Component.{Component}
 use Rattle.sources.specs.Rows.{value_in}
-use Rattle.plain_evaluation.specs.Held.{Held}
 use Rattle.plain_evaluation.specs.Place.{Place}
 use Rattle.plain_evaluation.specs.Written.{state_of, written}
 use Rattle.plan_meaning.specs.Carried.{rows_to}

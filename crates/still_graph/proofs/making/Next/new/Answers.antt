@@ -1,7 +1,6 @@
-use Rattle.std.proofs.Common.{◌≤◌, length, sym, ap, subst, ◌∙◌, arith}
+use Rattle.std.proofs.Common.{length, sym, ap, subst, ◌∙◌, arith}
 use Rattle.values.specs.declared.plan.Plan.{Plan}
 use Rattle.values.specs.Plan.{IsLawful}
-use Rattle.component_items.specs.declared.component.Component.{Component}
 use Rattle.plain_evaluation.specs.Written.{state_of}
 use Rattle.plain_evaluation.proofs.Fitting.{rows_of_held}
 use Rattle.plan_meaning.proofs.Owners.{lawful}

@@ -1,4 +1,4 @@
-use Rattle.std.proofs.Common.{◌∙◌, refl, sym, ap}
+use Rattle.std.proofs.Common.{◌∙◌, refl, ap}
 use Rattle.run_history.specs.Calls.{pump}
 use Rattle.still_graph.specs.Still.{StillState}
 use Rattle.still_graph.proofs.Stays.{call_stays, call_made}

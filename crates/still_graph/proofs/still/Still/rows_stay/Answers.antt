@@ -1,4 +1,4 @@
-use Rattle.std.proofs.Common.{sym, ap, ◌∙◌}
+use Rattle.std.proofs.Common.{ap, ◌∙◌}
 use Rattle.still_graph.specs.Settling.{all_keep_rows}
 use Rattle.still_graph.specs.Still.{StillState}
 use Rattle.still_graph.proofs.still.Still.rows_stay.Goals as goal

@@ -1,8 +1,7 @@
-use Rattle.std.proofs.Common.{◌≡◌, ◌<◌, ◌^◌, ◌+◌, sym, ap, subst, ◌∙◌, arith}
+use Rattle.std.proofs.Common.{◌<◌, ◌^◌, sym, ap, subst, ◌∙◌, arith}
 use Rattle.phase_graph.specs.Graph.{GraphState, ticks_of}
 use Rattle.still_graph.specs.Loads.{has_load}
 use Rattle.still_graph.specs.Still.{StillState}
-use Rattle.still_graph.proofs.Rest.{IsBrought}
 use Rattle.still_graph.proofs.Stages.{first_closed, first_stands, first_settles}
 use Rattle.still_graph.proofs.still.Still.settle_first.Goals as goal
 

@@ -1,4 +1,4 @@
-use Rattle.std.proofs.Common.{◌≡◌, ◌<◌, ◌^◌, ◌+◌, ◌++◌, ◌∷◌, [], List, true, slice_get, sym, ap, subst, ◌∙◌, arith}
+use Rattle.std.proofs.Common.{◌≡◌, ◌<◌, ◌^◌, ◌++◌, ◌∷◌, [], List, true, slice_get, sym, ap, subst, ◌∙◌, arith}
 use Rattle.sources.specs.declared.opening.Opened.{Opened}
 use Rattle.sources.specs.Rows.{value_in}
 use Rattle.held_state.specs.State.{with_held}
