@@ -1,5 +1,5 @@
 -- The areas that a script may name are among the owners of the component.
-use Rattle.std.proofs.Common.{◌≡◌, ℕ, suc, ◌+◌, ◌<◌, List, [], ◌∷◌, ◌++◌, length, map, Contains, inl, inr, refl, sym, subst, ⊎_elim, arith}
+use Rattle.std.proofs.Common.{ℕ, ◌<◌, List, [], ◌∷◌, length, map, Contains, inl, inr, refl, sym, subst, arith}
 use Rattle.std.specs.List.{AllByRecursion as Each, flat_map, concat}
 use Rattle.std.proofs.lemmas.List.Elements.{All-from_recursion, All-contains}
 use Rattle.component_items.specs.declared.component.Component.{Component}

@@ -1,5 +1,5 @@
 -- Room for the edits of a lane.
-use Rattle.std.proofs.Common.{◌≡◌, ℕ, zero, suc, ◌+◌, ◌<◌, ◌≤◌, Bool, true, false, cond, List, [], ◌∷◌, length, take, get_or, map, Some, refl, sym, ap, subst, ◌∙◌, arith}
+use Rattle.std.proofs.Common.{◌≡◌, ℕ, zero, suc, ◌+◌, ◌<◌, ◌≤◌, Bool, true, false, cond, List, [], ◌∷◌, length, take, get_or, Some, refl, sym, ap, subst, ◌∙◌, arith}
 use Rattle.std.specs.Prelude.{slice_get, count_by, min, IsSomeAnd, Option}
 use Rattle.std.proofs.lemmas.List.Sums.{count_by_more_yes, count_by_more_no}
 use Rattle.std.proofs.lemmas.Option.{slice_get_within, get_or_from_slice_get}
@@ -10,9 +10,7 @@ use Rattle.script_items.specs.Script.{numbered}
 use Rattle.run_items.specs.declared.answer.Answer.{Answer}
 use Rattle.run_meaning.specs.Lane.{Done, edits_in}
 use Rattle.run_meaning.specs.Merge.{is_edit}
-use Rattle.run_meaning.specs.Phase.{Phase}
-use Rattle.run_history.specs.Going.{just_opened}
-use Rattle.still_graph.specs.Still.{StillState, IsOpenAt}
+use Rattle.still_graph.specs.Still.{StillState}
 use Rattle.script_run.specs.Lanes.{IsAtOp, HasDone, IsFresh, HasRoom, room_for}
 use Rattle.script_run.proofs.Lists.{count_cons}
 use Rattle.script_run.proofs.Noted.{few_edits, accepted_few}

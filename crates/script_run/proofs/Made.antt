@@ -1,6 +1,6 @@
 -- A phase that was made is one of which all holds.
 use Rattle.std.proofs.Common.{◌≡◌, ℕ, zero, suc, ◌≤◌, List, [], ◌∷◌, ◌++◌, length, map, Option, Some, refl, sym, ap, subst, ◌∙◌, arith}
-use Rattle.std.specs.Prelude.{max, replicate, slice_get, unwrap_or}
+use Rattle.std.specs.Prelude.{max, replicate}
 use Rattle.std.proofs.lemmas.List.{length-map}
 use Rattle.values.specs.declared.code.Code.{Code}
 use Rattle.store_fields.specs.declared.edit.Edit.{Edit}

@@ -1,7 +1,7 @@
 -- What calls note of edits, and what lanes are told of them.
 use Rattle.std.proofs.Common.{◌≡◌, ℕ, zero, suc, ◌+◌, ◌-◌, ◌<◌, ◌≤◌, Bool, true, false, cond, List, [], ◌∷◌, ◌++◌, length, map, Option, Some, None, Result, Ok, Err, refl, sym, ap, subst, ◌∙◌, ⊎_elim, arith}
-use Rattle.std.specs.Prelude.{slice_get, filter_map, count_by, is_some, ◌&&◌}
-use Rattle.std.specs.List.{cons_option, list_all}
+use Rattle.std.specs.Prelude.{slice_get, count_by, ◌&&◌}
+use Rattle.std.specs.List.{cons_option}
 use Rattle.std.specs.Option.{option_map, option_and_then}
 use Rattle.std.proofs.lemmas.Bool.{true≢false, cases_lt}
 use Rattle.std.proofs.lemmas.List.{append-nil}
@@ -23,7 +23,7 @@ use Rattle.run_meaning.specs.Edits.{ordered, edit_at, named_edit, edits_of}
 use Rattle.run_meaning.specs.Lane.{Done, edit_number, accepted, edits_in}
 use Rattle.run_meaning.specs.Merge.{is_edit}
 use Rattle.run_meaning.specs.Opened.{Opened}
-use Rattle.run_history.specs.Going.{Start, Going, note, Numbered, all_are, is_edit_by, edits_by, derived_of}
+use Rattle.run_history.specs.Going.{Start, Going, Numbered, all_are, is_edit_by, edits_by, derived_of}
 use Rattle.run_history.specs.Calls.{Call, set, get, pump, dispose, edit, Calls, Stops, is_change, is_of_pump}
 use Rattle.run_weave.specs.Lanes.{IsQuietly, Speaks, stopped, set_reply, get_reply, told_reply, told_lane}
 use Rattle.phase_graph.specs.Graph.{edits_with}

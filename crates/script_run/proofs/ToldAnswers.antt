@@ -1,6 +1,6 @@
 -- Edits are told what came of them.
-use Rattle.std.proofs.Common.{◌≡◌, ℕ, zero, suc, ◌+◌, ◌<◌, ◌≤◌, Bool, true, false, cond, List, [], ◌∷◌, ◌++◌, length, map, take, drop, Option, Some, None, refl, sym, ap, subst, ◌∙◌, arith, append_assoc, length-append, lit≤}
-use Rattle.std.specs.Prelude.{slice_get, slice_set, count_by, is_some, unwrap_or, IsSome}
+use Rattle.std.proofs.Common.{◌≡◌, ℕ, zero, suc, ◌+◌, ◌<◌, ◌≤◌, Bool, true, false, cond, List, [], ◌∷◌, ◌++◌, length, map, take, drop, Option, Some, None, refl, sym, ap, ◌∙◌, arith, append_assoc, length-append, lit≤}
+use Rattle.std.specs.Prelude.{slice_get, slice_set, unwrap_or, IsSome}
 use Rattle.std.specs.List.{cons_option}
 use Rattle.std.proofs.Math.Seq.{set-append_seam, take-append_seam, drop-append_seam}
 use Rattle.std.proofs.lemmas.List.{append-nil, take-append-drop, length-take-le, length-map}
@@ -12,7 +12,7 @@ use Rattle.script_items.specs.Script.{numbered}
 use Rattle.run_items.specs.declared.answer.Answer.{Answer}
 use Rattle.run_items.specs.declared.answer.Reply.{Reply}
 use Rattle.run_items.specs.declared.answer.Reply.TheVariants as reply
-use Rattle.run_meaning.specs.Edits.{Ordered, held_written, verdict_in, edits_of}
+use Rattle.run_meaning.specs.Edits.{Ordered, held_written, verdict_in}
 use Rattle.run_meaning.specs.Lane.{Done, edit_number}
 use Rattle.run_meaning.specs.Phase.{Phase}
 use Rattle.run_meaning.specs.Run.{answers_of_lane, answers_of_lanes}

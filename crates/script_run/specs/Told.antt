@@ -1,5 +1,5 @@
 -- Answers that are told what came of edits.
-use Rattle.std.specs.Prelude.{ℕ, suc, if◌then◌else◌, Bool, is_some, Option, unwrap_or, List, [], ◌∷◌, slice_get, count_by}
+use Rattle.std.specs.Prelude.{ℕ, suc, if◌then◌else◌, Bool, is_some, unwrap_or, List, [], ◌∷◌, slice_get, count_by}
 use Rattle.store_fields.specs.declared.edit.Verdict.{Verdict}
 use Rattle.store_fields.specs.declared.edit.Verdict.TheVariants.{Absent}
 use Rattle.script_items.specs.Script.{numbered}

@@ -1,4 +1,4 @@
-use Rattle.std.proofs.Common.{refl, sym, ap, subst, ◌<◌, length}
+use Rattle.std.proofs.Common.{refl, sym, subst, ◌<◌, length}
 use Rattle.values.specs.declared.plan.Plan.{Plan}
 use Rattle.run_history.specs.Calls.{dispose}
 use Rattle.script_items.specs.declared.operation.ScriptOp.TheVariants as op

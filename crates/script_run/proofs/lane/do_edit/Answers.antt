@@ -1,4 +1,4 @@
-use Rattle.std.proofs.Common.{◌≡◌, ℕ, refl, sym, ap, subst, ◌<◌, length, ◌∙◌}
+use Rattle.std.proofs.Common.{ℕ, sym, ap, subst, ◌<◌, length, ◌∙◌}
 use Rattle.values.specs.declared.plan.Plan.{Plan}
 use Rattle.store_fields.specs.declared.edit.Edit.{Edit}
 use Rattle.plan_meaning.specs.Owners.{plan_owners}

@@ -1,9 +1,7 @@
-use Rattle.std.proofs.Common.{◌≡◌, ap, sym, subst, ◌∙◌, List, length}
-use Rattle.std.specs.Prelude.{unwrap_or}
+use Rattle.std.proofs.Common.{ap, ◌∙◌}
 use Rattle.plain_evaluation.proofs.Fitting.{rows_of_held}
 use Rattle.run_meaning.specs.Opened.{opened_of}
-use Rattle.script_run.specs.Lanes.{lanes_at, first_ops}
-use Rattle.script_run.specs.Today.{OpsRun}
+use Rattle.script_run.specs.Lanes.{lanes_at}
 use Rattle.still_graph.specs.Still.{StillState}
 use Rattle.script_run.proofs.Asked.{first_run}
 use Rattle.script_run.proofs.Made.{phase_made}

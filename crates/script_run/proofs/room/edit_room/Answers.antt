@@ -1,6 +1,5 @@
-use Rattle.std.proofs.Common.{◌≡◌, ◌≤◌, List, length, slice_get, Some, None, ap, ◌∙◌, arith}
+use Rattle.std.proofs.Common.{◌≡◌, ◌≤◌, length, slice_get, Some, None, ap, ◌∙◌, arith}
 use Rattle.std.proofs.lemmas.List.{take_all}
-use Rattle.script_items.specs.declared.operation.ScriptOp.{ScriptOp}
 use Rattle.script_run.specs.Lanes.{first_ops, room_for}
 use Rattle.script_run.proofs.EditRoom.{room_more}
 use Rattle.script_run.proofs.Steps.{op_found, none_at}

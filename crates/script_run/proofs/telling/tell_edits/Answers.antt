@@ -1,4 +1,4 @@
-use Rattle.std.proofs.Common.{◌≡◌, ◌≤◌, ℕ, ◌+◌, List, length, take, drop, sym, subst, arith}
+use Rattle.std.proofs.Common.{◌≤◌, ℕ, ◌+◌, List, length, take, drop, sym, subst, arith}
 use Rattle.store_fields.specs.declared.edit.Verdict.{Verdict}
 use Rattle.script_run.specs.Told.{first_verdicts}
 use Rattle.script_run.proofs.ToldAnswers.{AreToldTo, none_told, one_told, all_told, told_within}
