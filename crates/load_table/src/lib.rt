@@ -2,3 +2,11 @@
 #![tactic(auto)]
 
 pub mod laws;
+mod load;
+mod resource;
+mod resources;
+mod table;
+mod walk;
+
+pub use load::Load;
+pub use table::LoadTable;
