@@ -7,6 +7,7 @@ mod resource;
 mod resources;
 mod table;
 mod walk;
+pub mod worked;
 
 pub use load::Load;
 pub use table::LoadTable;
