@@ -9,7 +9,7 @@ use Rattle.component_items.specs.declared.component.Attr.{Attr}
 use Rattle.component_items.specs.declared.component.Item.{Item}
 use Rattle.component_items.specs.declared.component.Item.TheVariants.{Signal, Memo, Effect, Resource, Cleanup, Load, Store, Area, If, Each, Element, Text, Shown}
 use Rattle.component_items.proofs.FoldLemmas.{fold-Signal, fold-Memo, fold-Effect, fold-Resource, fold-Load, fold-Cleanup, fold-Store, fold-Area, fold-If, fold-Each, fold-Element, fold-Text, fold-Shown}
-use Rattle.load_table.specs.Loads.{LoadOf, loads_step, item_loads, loads_among}
+use Rattle.load_table.specs.Loads.{loads_step, item_loads, loads_among}
 
 pub nothing_put : {A : Type 0} (old all : List A) → all ≡ [] → old ≡ old ++ all
 nothing_put old all is = sym (append-nil old) ∙ ap (λ xs. old ++ xs) (sym is)

@@ -1,14 +1,13 @@
 -- The resources of a component, as they are found by id.
-use Rattle.std.proofs.Common.{◌≡◌, ℕ, suc, ◌+◌, ◌<◌, ◌≤◌, ◌==◌, nat_eq, if◌then◌else◌, Bool, true, false, List, [], ◌∷◌, ◌++◌, map, length, Option, Some, None, unwrap_or, refl, sym, ap, subst, ◌∙◌, arith}
+use Rattle.std.proofs.Common.{◌≡◌, ℕ, ◌+◌, ◌<◌, ◌≤◌, ◌==◌, nat_eq, if◌then◌else◌, Bool, true, false, List, [], ◌∷◌, ◌++◌, length, Some, None, unwrap_or, refl, sym, ap, subst, ◌∙◌, arith}
 use Rattle.std.specs.List.{list_all, zip}
 use Rattle.std.proofs.lemmas.Bool.{eqb-true}
 use Rattle.std.proofs.lemmas.List.{append-nil}
-use Rattle.values.specs.declared.code.Code.{Code}
 use Rattle.component_items.specs.declared.component.Component.{Component}
 use Rattle.component_items.specs.declared.component.Item.{Item}
 use Rattle.component_items.specs.declared.component.Item.TheOpen as level
 use Rattle.component_items.specs.declared.component.Item.TheOpen.{Item-F}
-use Rattle.component_items.specs.declared.component.Item.TheViews.{out-Item, roll-Item, roll-out-Item}
+use Rattle.component_items.specs.declared.component.Item.TheViews.{out-Item, roll-out-Item}
 use Rattle.component_items.specs.declared.component.Item.TheFolds.{fold-roll-Item, map-Item}
 use Rattle.component_items.specs.Ids.{ids_step, item_ids, ids_in}
 use Rattle.component_items.specs.Kept.{are_distinct, shape_step, item_has_shape, IsKept}
@@ -17,8 +16,8 @@ use Rattle.plain_evaluation.specs.Written.{pairs_step, pairs_among}
 use Rattle.plain_evaluation.proofs.Goings.{Numbered, numbered-cons, numbered-append}
 use Rattle.plain_evaluation.proofs.Places.{and_cases}
 use Rattle.load_table.specs.Loads.{after_step, after_among, loads_among, loads_in}
-use Rattle.load_table.specs.Table.{ResourceOf, no_resource, after_by, pairs_by, pairs_put, resource_of, resource_told, resources_told, resources_put}
-use Rattle.load_table.proofs.Puts.{Lacks, lacks-append, AreNew, put_new, pairs_stay}
+use Rattle.load_table.specs.Table.{ResourceOf, no_resource, after_by, pairs_by, resource_of, resource_told, resources_told, resources_put}
+use Rattle.load_table.proofs.Puts.{Lacks, AreNew, put_new, pairs_stay}
 
 -- ---- an item by its form
 

@@ -1,5 +1,5 @@
 -- Pairs that are put into a map one after another, and what is found there.
-use Rattle.std.proofs.Common.{◌≡◌, ℕ, suc, ◌+◌, ◌<◌, ◌==◌, nat_eq, cond, if◌then◌else◌, not, Bool, true, false, List, [], ◌∷◌, ◌++◌, drop, drop-cons, length, get_or, append_assoc, Option, Some, None, unwrap_or, min, refl, sym, ap, ◌∙◌, arith}
+use Rattle.std.proofs.Common.{◌≡◌, ℕ, suc, ◌+◌, ◌<◌, ◌==◌, nat_eq, cond, if◌then◌else◌, not, Bool, true, false, List, [], ◌∷◌, ◌++◌, drop, drop-cons, length, get_or, append_assoc, Some, None, unwrap_or, min, refl, sym, ap, ◌∙◌, arith}
 use Rattle.std.specs.List.{zip, list_any}
 use Rattle.std.specs.Map.{lookup}
 use Rattle.std.proofs.lemmas.Bool.{eqb-true, eq-eqb}
