@@ -297,6 +297,10 @@ fn areas_and_effects_are_run(rt: HostRuntime) -> Result<(), Fail> {
             "component 1|signal a = 1|effect e = a|---|phase lane pump|phase lane pump set a = 2|phase lane pump",
             "1.1.1 pump ran 1 same 0 gone 0 left 0|journal 1.1 ran 1 1|2.1.1 pump ran 0 same 1 gone 0 left 0|2.1.2 set 1|journal 2.1 write 0 2|3.1.1 pump ran 1 same 0 gone 0 left 0|journal 3.1 ran 1 2|",
         ),
+        (
+            "component 1|signal s = 0|signal f = 0|memo c = s|memo m = f|effect z = if c then m else s|---|phase lane pump set s = 1 pump|phase lane set f = 1 set s = 2 get m pump",
+            "1.1.1 pump ran 1 same 0 gone 0 left 0|1.1.2 set 2|1.1.3 pump ran 1 same 0 gone 0 left 0|journal 1.1 ran 4 0|journal 1.2 write 0 1|journal 1.3 ran 4 0|journal 1.4 change 2 1|2.1.1 set 1|2.1.2 set 2|2.1.3 get 1 at 3|2.1.4 pump ran 1 same 0 gone 0 left 0|journal 2.1 write 1 1|journal 2.2 write 0 2|journal 2.3 change 3 1|journal 2.4 change 2 2|journal 2.5 ran 4 1|",
+        ),
     ];
     for (input, output) in rows {
         assert!(rt; writes(&rt, input, output)?, "{output}");

@@ -68,7 +68,8 @@ impl Graph {
     }
 
     /// Opens a phase of so many passes, each of which may note so many edits. All memory that the calls of the phase
-    /// need is taken here. After want of memory the graph is as it was.
+    /// need is taken here. Who read what in an earlier phase, and not in its last run, is no reader any more. After want
+    /// of memory the graph is as it was.
     pub fn begin(&mut self, alloc: Global, passes: u32, edits: u32) -> Result<(), NoMemory>
         requires closed { self.old.is_open ≡ false }
         requires passes { 1 ≤ passes × passes ≤ 16 }
@@ -82,6 +83,7 @@ impl Graph {
         let lists = empty_lists(alloc, passes, edits as usize)?;
         self.edits = lists;
         self.edit_room = edits as usize;
+        self.table.subscribe();
         self.idle = Some(self.table.begin(entries));
         Ok(())
     }

@@ -1,6 +1,7 @@
 //! Where a phase opens and ends, and settling.
-ghost use Rattle.std.specs.Prelude.{◌≡◌, ◌≤◌, ◌<◌, ◌+◌, ◌^◌, true, false, [], OnOk, OnErr};
+ghost use Rattle.std.specs.Prelude.{◌≡◌, ◌≤◌, ◌<◌, ◌+◌, ◌^◌, true, false, [], length, OnOk, OnErr};
 ghost use Rattle.values.specs.Reserved.{room_of};
+ghost use Rattle.still_readers.specs.Readers.{IsExact};
 ghost use Rattle.phase_graph.specs.Table.{IsTable, IsStirred, IsSettled, begun, ended};
 
 use crate::table::Table;
@@ -23,6 +24,17 @@ impl Table {
         self.clock.drawn = 0;
         self.clock.in_phase = true;
         mem::replace(&mut self.clock.entries, entries)
+    }
+
+    /// Makes exact who has read what: each node has read the rows that its body records, and no others.
+    pub(crate) fn subscribe(&mut self)
+        requires table { IsTable self.old }
+        requires ticks { self.old.clock.base < 2 ^ 62 }
+        ensures table { IsTable self.new }
+        ensures exact { IsExact self.new.rows.items (length self.new.readers.list) self.new.readers }
+        ensures rest { self.new ≡ record self.old { readers = self.new.readers } }
+    {
+        self.readers.renew(self.rows.as_slice());
     }
 
     /// Ends the phase, and puts this list in the place of what was noted, which is the answer.
