@@ -1,0 +1,6 @@
+//! What polls of the loads of a component come to.
+#![tactic(auto)]
+
+mod late;
+
+pub use late::Late;
