@@ -1,5 +1,5 @@
 -- What the operations of a phase's lanes leave of a graph whose phase is open.
-use Rattle.std.specs.Prelude.{◌≡◌, ◌≤◌, ◌<◌, ℕ, ◌+◌, min, List, [], ◌∷◌, ◌++◌, length, map, unwrap_or, filter_map, count_by, IsSomeAnd}
+use Rattle.std.specs.Prelude.{◌≡◌, ◌<◌, ℕ, ◌+◌, min, List, [], ◌∷◌, ◌++◌, length, map, unwrap_or, filter_map, count_by, IsSomeAnd}
 use Rattle.std.specs.List.{AllByRecursion}
 use Rattle.std.specs.Option.{option_and_then}
 use Rattle.component_items.specs.Kept.{IsKept}
@@ -14,14 +14,14 @@ use Rattle.plan_meaning.specs.Owners.{plan_owners}
 use Rattle.run_meaning.specs.Lane.{Done, edit_number, edits_in}
 use Rattle.run_meaning.specs.Merge.{is_edit}
 use Rattle.run_meaning.specs.Phase.{Phase}
-use Rattle.run_meaning.specs.Run.{IsPhase, answers_of_lane, answers_of_lanes}
+use Rattle.run_meaning.specs.Run.{answers_of_lane, answers_of_lanes}
 use Rattle.run_history.specs.Going.{Going, just_opened}
 use Rattle.run_history.specs.Calls.{MadeCall, CallsLead, calls_by}
-use Rattle.run_weave.specs.Lanes.{LaneSpeaks, LanesSpeak, lane_of, told}
+use Rattle.run_weave.specs.Lanes.{LaneSpeaks, LanesSpeak, lane_of}
 use Rattle.phase_graph.specs.Way.{no_edits}
 use Rattle.phase_edits.specs.Told.{edit_numbers}
 use Rattle.still_graph.specs.declared.still.Stage.TheVariants.{Open}
-use Rattle.still_graph.specs.Still.{StillState, opened_in, start_in, IsOpenAt, HasEnded}
+use Rattle.still_graph.specs.Still.{StillState, opened_in, start_in, IsOpenAt}
 
 -- a phase is open, over rows that are laid out from a state of the component
 pub record IsOpenOver (x : StillState) : Type 0 where
