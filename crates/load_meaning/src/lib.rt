@@ -2,5 +2,6 @@
 #![tactic(auto)]
 
 mod late;
+pub mod laws;
 
 pub use late::Late;

@@ -81,7 +81,7 @@ line_before (x ∷ before) p has = at (same_place (place_of x) p) refl has (line
     at false same has later = let one = later has in (x ∷ one.0, one.1, one.2, (λ i. x ∷ one.3 i), one.4)
 
 -- what a line reads is before it
-read_before : (keyed : ℕ → Bool) (ws before after : List Written) (w : Written) → IsSound keyed ws → ws ≡ before ++ w ∷ after → (id : ℕ) → Contains (ids_read w.says w.id) id → (p : Place) → stands_for keyed w.scene id ≡ place p → has_place before p ≡ true
+pub read_before : (keyed : ℕ → Bool) (ws before after : List Written) (w : Written) → IsSound keyed ws → ws ≡ before ++ w ∷ after → (id : ℕ) → Contains (ids_read w.says w.id) id → (p : Place) → stands_for keyed w.scene id ≡ place p → has_place before p ≡ true
 read_before keyed ws before after w sound parted id reads p stand =
     let come = names_at keyed [] before after w (subst (λ xs. names_come_before keyed [] xs ≡ true) parted sound.back) in
     let here = each_of (λ n. comes_before before (stands_for keyed w.scene n)) (ids_read w.says w.id) id come reads in
