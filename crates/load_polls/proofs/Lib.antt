@@ -1,2 +1,4 @@
+pub mod Lists
 pub mod Rising
 pub mod Values
+pub mod Steps

@@ -80,7 +80,7 @@ module _ (plan : Plan) (is_lawful : IsLawful plan) (s t : ℕ → Code) (memos :
 pub plan_holds : (plan : Plan) → IsLawful plan → (sources : ℕ → Code) → MemosHold plan.nodes (plan_value plan.nodes sources)
 plan_holds plan is_lawful sources row node at memo = plan_value-derived plan.nodes sources (lawful_back plan is_lawful) row node at (ap is_derived memo)
 
-three : (j n : ℕ) → (j < n) ⊎ ((j ≡ n) ⊎ (n < j))
+pub three : (j n : ℕ) → (j < n) ⊎ ((j ≡ n) ⊎ (n < j))
 three j n = grind arith
 
 -- ---- loads of a component
