@@ -2,3 +2,4 @@ pub mod Lists
 pub mod Rising
 pub mod Values
 pub mod Steps
+pub mod Turns

@@ -38,6 +38,7 @@ pub record IsFitting (component : Component) (places : List Place) (held : HeldS
   pub fits : IsOf component held
   pub named : places ≡ places_of (written component held.held)
   pub plan : graph.plan ≡ plan_of component (state_of held.held)
+  pub paired : length graph.rows ≡ length graph.plan.nodes
   pub shown : SourcesShow component (state_of held.held) graph.rows
 
 -- The loads before the place were polled. Each memo below `from` is up to date, and the keys of the others stand from there on.
