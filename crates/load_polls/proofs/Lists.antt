@@ -1,8 +1,10 @@
 -- Places of lists, and values of rows.
-use Rattle.std.proofs.Common.{◌≡◌, ◌≢◌, ℕ, zero, suc, ◌+◌, ◌<◌, ◌≤◌, List, [], ◌∷◌, ◌++◌, map, length, set, take, get_or, slice_get, Option, Some, None, refl, sym, ap, ◌∙◌, arith}
+use Rattle.std.proofs.Common.{◌≡◌, ◌≢◌, ℕ, zero, suc, ◌+◌, ◌<◌, ◌≤◌, replicate, unwrap_or, List, [], ◌∷◌, ◌++◌, map, length, set, take, get_or, slice_get, Option, Some, None, refl, sym, ap, ◌∙◌, arith}
 use Rattle.std.proofs.Math.Seq.{take-suc}
 use Rattle.std.proofs.lemmas.Option.{slice_get_within, get_or_from_slice_get}
+use Rattle.std.specs.Option.{option_map}
 use Rattle.values.specs.declared.code.Code.{Code}
+use Rattle.values.specs.declared.code.Code.TheVariants.{Empty}
 use Rattle.values.specs.Packing.{unpacked}
 use Rattle.sources.specs.declared.opening.Opened.{Opened}
 use Rattle.sources.specs.Rows.{code_in, value_in}
@@ -60,3 +62,18 @@ coloured_value old new n long coloured = by (slice_get old n) refl (slice_get ne
     by None none (Some two) at = let one = fellow old new (sym long) n two at in let both : None ≡ Some one.0 = sym none ∙ one.1 in cc
     by (Some one) at None gone = let two = fellow new old long n one at in let both : None ≡ Some two.0 = sym gone ∙ two.1 in cc
     by (Some one) at (Some two) here = row_value new n two here ∙ ap (λ (r : Opened). unpacked r.code) (coloured one two at here) ∙ sym (row_value old n one at)
+
+nothing_there : Empty ≡ unpacked 0
+unfolding unpacked
+nothing_there = refl
+
+pub found_value : (rows : List Opened) (n : ℕ) → unwrap_or (option_map (λ (row : Opened). unpacked row.code) (slice_get rows n)) Empty ≡ value_in rows n
+found_value rows n = by (slice_get rows n) refl
+  where
+    by : (o : Option Opened) → slice_get rows n ≡ o → unwrap_or (option_map (λ (row : Opened). unpacked row.code) o) Empty ≡ value_in rows n
+    by None none = nothing_there ∙ ap unpacked (sym (code_is rows n ∙ ap code_or none))
+    by (Some row) at = sym (row_value rows n row at)
+
+pub all_first : {A : Type 0} {B : Type 0} (first : B) (xs : List A) → replicate (length xs) first ≡ map (λ x. first) xs
+all_first first [] = refl
+all_first first (x ∷ xs) = ap (λ more. first ∷ more) (all_first first xs)

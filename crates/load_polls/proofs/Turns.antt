@@ -23,6 +23,7 @@ use Rattle.plain_evaluation.specs.Keyed.{is_keyed}
 use Rattle.plain_evaluation.specs.Place.{Place, outside}
 use Rattle.plain_evaluation.specs.Written.{state_of, written, kind_said}
 use Rattle.plan_meaning.specs.Layout.{places_of, row_of, node_of, plan_of}
+use Rattle.plan_meaning.proofs.Owners.{lawful}
 use Rattle.plan_meaning.proofs.Rows.{row_got}
 use Rattle.held_state.specs.State.{HeldState, IsOf, with_held}
 use Rattle.load_table.specs.Loads.{LoadOf, loads_in, is_live_load}
@@ -92,6 +93,13 @@ module _ (component : Component) (kept : IsKept component) (places : List Place)
 
     pub key_within : key < length x.graph.plan.nodes
     key_within = slice_get_within x.graph.plan.nodes key memo.0 (ap (λ (p : Plan). slice_get p.nodes key) ready.fitting.plan ∙ memo.1)
+
+    pub key_few : key + 1 ≤ 4096
+    key_few =
+        let few = (lawful component (state_of x.held.held) kept (fits component kept x.held of place load at live)).few_nodes in
+        let e = ap (λ (p : Plan). length p.nodes) ready.fitting.plan in
+        let lt = key_within in
+        omega (arith, few, e, lt)
 
     -- the row of the load is a source's
     load_node : slice_get x.graph.plan.nodes row ≡ Some (node_of (is_keyed component) (places_of (written component x.held.held)) rows.w)
