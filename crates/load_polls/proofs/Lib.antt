@@ -3,3 +3,4 @@ pub mod Rising
 pub mod Values
 pub mod Steps
 pub mod Turns
+pub mod Sweeps

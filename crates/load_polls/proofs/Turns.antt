@@ -1,6 +1,7 @@
 -- One poll of a live load, from what held before it.
-use Rattle.std.proofs.Common.{◌≡◌, ◌≢◌, ◌⊎◌, ℕ, zero, suc, ◌+◌, ◌-◌, ◌*◌, ◌^◌, ◌<◌, ◌≤◌, inl, inr, Bool, true, false, List, [], ◌∷◌, ◌++◌, length, set, slice_get, Contains, Option, Some, None, refl, sym, ap, subst, ◌∙◌, arith}
+use Rattle.std.proofs.Common.{◌≡◌, ◌≢◌, ◌⊎◌, ◌↔◌, ℕ, zero, suc, ◌+◌, ◌-◌, ◌*◌, ◌^◌, ◌<◌, ◌≤◌, inl, inr, Bool, true, false, List, [], ◌∷◌, ◌++◌, length, set, slice_get, Contains, Option, Some, None, refl, sym, ap, subst, ◌∙◌, arith}
 use Rattle.std.specs.Prelude.{IsSome, IsSomeAnd}
+use Rattle.std.specs.Option.{option_map_or}
 use Rattle.std.proofs.lemmas.Option.{slice_get_within}
 use Rattle.values.specs.declared.code.Code.{Code}
 use Rattle.values.specs.declared.plan.Kind.{Kind}
@@ -16,8 +17,11 @@ use Rattle.sources.specs.Rows.{value_in}
 use Rattle.component_items.specs.declared.component.Component.{Component}
 use Rattle.component_items.specs.Kept.{IsKept}
 use Rattle.async_derived.specs.declared.loading.Loading.{Loading}
+use Rattle.outside.specs.Asks.{Ask}
+use Rattle.outside.specs.declared.traits.Arrival.{Arrival}
 use Rattle.async_derived.specs.declared.loading.Polled.{Polled}
-use Rattle.async_derived.specs.Loads.{after_poll}
+use Rattle.async_derived.specs.declared.loading.Polled.TheVariants.{Arrived}
+use Rattle.async_derived.specs.Loads.{after_poll, answer_of, keyed, prompt_poll}
 use Rattle.plain_evaluation.specs.Changed.{load_of, with_arrived}
 use Rattle.plain_evaluation.specs.Keyed.{is_keyed}
 use Rattle.plain_evaluation.specs.Place.{Place, outside}
@@ -28,12 +32,13 @@ use Rattle.plan_meaning.proofs.Rows.{row_got}
 use Rattle.held_state.specs.State.{HeldState, IsOf, with_held}
 use Rattle.load_table.specs.Loads.{LoadOf, loads_in, is_live_load}
 use Rattle.load_table.proofs.Keys.{behind_key}
-use Rattle.load_meaning.specs.Polls.{key_of}
+use Rattle.load_table.specs.Table.{pairs_at}
+use Rattle.load_meaning.specs.Polls.{key_of, late_as, IsPolled}
 use Rattle.load_meaning.proofs.Loadings.{poll_arrived}
 use Rattle.phase_graph.specs.Graph.{GraphState, AreSettledTo}
 use Rattle.load_polls.specs.Loads.{EffectsStay, HasMoved}
 use Rattle.load_polls.specs.Shown.{load_code, SourcesShow}
-use Rattle.load_polls.specs.Stands.{Sweep, sweep_of, HasOwnKey, IsFitting, IsReady}
+use Rattle.load_polls.specs.Stands.{Sweep, sweep_of, HasOwnKey, IsFitting, IsReady, IsTaken}
 use Rattle.load_polls.proofs.Lists.{fellow, row_value, same_value, coloured_value}
 use Rattle.load_polls.proofs.Rising.{keys_rise}
 use Rattle.load_polls.proofs.Steps.{IsSpanned, IsPut, fits, nested, rows_here, holds, id_few, of_later, places_later, plan_later, shown_later, own_keys, in_step_later}
@@ -198,3 +203,40 @@ module _ (component : Component) (kept : IsKept component) (places : List Place)
                 let up = keys_rise component (state_of x.held.held) kept (fits component kept x.held of place load at live) (nested component kept x.held of place load at live) place j load other (omega (arith, le)) at at_other live live_other key low key_here (ap (λ (ps : List Place). row_of ps (outside (suc other.id))) (sym ready.fitting.named) ∙ found_other) in
                 omega (arith, up));
           }
+
+-- the same, of what the calls gave
+pub turn_ready : (component : Component) (kept : IsKept component) (places : List Place) (place from : ℕ) (x : Sweep) (ready : IsReady component places place from x) (load : LoadOf) (at : slice_get (loads_in component) place ≡ Some load) (live : is_live_load component (state_of x.held.held) load ≡ true)
+    → (row key : ℕ) → row_of places (outside load.id) ≡ Some row → row_of places (outside (suc load.id)) ≡ Some key
+    → (spanned last : GraphState) (code : Code) → IsSpanned x.graph spanned from (key + 1) → IsPut spanned last row code
+    → (was new : Loading) (came : Polled) (read : Code) → slice_get x.loadings place ≡ Some was → read ≡ value_in spanned.rows key → new ≡ after_poll was read came
+    → code ≡ load_code load.pairs new.arrived → (held : HeldState) → held ≡ with_held x.held (with_arrived x.held.held load.id new.arrived)
+    → IsReady component places (place + 1) (key + 1) (sweep_of held (set x.loadings place new) last)
+turn_ready component kept places place from x ready load at live row key row_is key_is spanned last code span put was new came read at_was read_is new_is code_is held held_is =
+    let key_at : read ≡ key_of component x.held.held load = read_is ∙ key_value component kept places place from x ready load at live row key row_is key_is spanned span in
+    let polled : new ≡ after_poll was (key_of component x.held.held load) came = new_is ∙ ap (λ (k : Code). after_poll was k came) key_at in
+    subst (λ (h : HeldState). IsReady component places (place + 1) (key + 1) (sweep_of h (set x.loadings place new) last)) (sym held_is)
+    (subst (λ (n : Loading). IsReady component places (place + 1) (key + 1) (sweep_of (with_held x.held (with_arrived x.held.held load.id n.arrived)) (set x.loadings place n) last)) (sym polled)
+    (ready_later component kept places place from x ready load at live row key row_is key_is spanned span last code put was came at_was (code_is ∙ ap (λ (n : Loading). load_code load.pairs n.arrived) polled)))
+
+pub turn_taken : {S : Type 0} (answers : S → Ask → Arrival → S → Type 0) (is_prompt : Bool) (component : Component) (place : ℕ) (x : Sweep) (load : LoadOf) → is_live_load component (state_of x.held.held) load ≡ true
+    → (was new : Loading) (came : Polled) (read : Code) (before after : S) → slice_get x.loadings place ≡ Some was → read ≡ key_of component x.held.held load → new ≡ after_poll was read came
+    → (came ≡ Arrived) ↔ (new.arrived ≡ Some read) → (was.arrived ≡ Some read → after ≡ before)
+    → (¬ (was.arrived ≡ Some read) → answers before (record { resource = load.resource; key = read; after = load.after; asked = (keyed was read).asked }) (answer_of came) after)
+    → (is_prompt ≡ true → came ≡ prompt_poll was read load.after)
+    → (held : HeldState) (graph : GraphState) → held ≡ with_held x.held (with_arrived x.held.held load.id new.arrived)
+    → IsTaken answers is_prompt component place load x (sweep_of held (set x.loadings place new) graph) (late_as load.id came) before after
+turn_taken answers is_prompt component place x load live was new came read before after at_was read_is state arrived unasked asked prompt held graph held_is = record {
+  live = live;
+  was = was;
+  at = at_was;
+  is = new;
+  came = came;
+  polled = subst (λ (k : Code). IsPolled answers load k was new came before after) read_is (record { state = state; arrived = arrived; unasked = unasked; asked = asked });
+  prompt = λ e. subst (λ (k : Code). came ≡ prompt_poll was k load.after) read_is (prompt e);
+  loadings = refl;
+  held = held_is;
+  added_is = refl;
+}
+
+pub pairs_there : (loads : List LoadOf) (place : ℕ) (load : LoadOf) → slice_get loads place ≡ Some load → pairs_at loads place ≡ load.pairs
+pairs_there loads place load at = ap (λ (o : Option LoadOf). option_map_or (λ l. l.pairs) o []) at

@@ -63,6 +63,7 @@ pub(crate) fn poll_all<L: Loader>(
     ensures not_yets { RoseBy (not_yet_count late.new.list) (L.not_yets loader.old) (L.not_yets loader.new) }
     ensures faults { RoseBy (failed_count late.new.list) (L.faults loader.old) (L.faults loader.new) }
 {
+    let _items = sides.component.items();
     let mut from = 0;
     for place in 0..loadings.len() {
         from = poll_at(sides, place, from, loadings, held, graph, late, loader);
