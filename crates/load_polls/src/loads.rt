@@ -108,6 +108,8 @@ impl Loads {
         ensures faults { RoseBy (failed_count late.new.list) (L.faults loader.old) (L.faults loader.new) }
         ensures prompt { OnTrue L.is_prompt (progress_of held.new self.new.loadings ≡ all_promptly component.now (progress_of held.old self.old.loadings)) }
     {
+        let _items = component.items();
+        let _plan = graph.plan();
         let sides = Sides {
             component,
             table: &self.table,
