@@ -1,9 +1,8 @@
 -- Places of lists, and values of rows.
-use Rattle.std.proofs.Common.{◌≡◌, ◌≢◌, ℕ, zero, suc, ◌+◌, ◌<◌, ◌≤◌, replicate, unwrap_or, List, [], ◌∷◌, ◌++◌, map, length, set, take, get_or, slice_get, Option, Some, None, refl, sym, ap, ◌∙◌, arith}
+use Rattle.std.proofs.Common.{◌≡◌, ◌≢◌, ℕ, zero, suc, ◌+◌, ◌<◌, replicate, unwrap_or, List, [], ◌∷◌, ◌++◌, map, length, set, take, slice_get, Option, Some, None, refl, sym, ap, ◌∙◌, arith}
 use Rattle.std.proofs.Math.Seq.{take-suc}
 use Rattle.std.proofs.lemmas.Option.{slice_get_within, get_or_from_slice_get}
 use Rattle.std.specs.Option.{option_map}
-use Rattle.values.specs.declared.code.Code.{Code}
 use Rattle.values.specs.declared.code.Code.TheVariants.{Empty}
 use Rattle.values.specs.Packing.{unpacked}
 use Rattle.sources.specs.declared.opening.Opened.{Opened}

@@ -17,9 +17,9 @@ use Rattle.component_items.specs.declared.component.Item.TheFolds.{fold-roll-Ite
 use Rattle.component_items.specs.Kept.{IsKept}
 use Rattle.plain_evaluation.specs.Fits.{RowsFit}
 use Rattle.plain_evaluation.specs.Origins.{Origin}
-use Rattle.plain_evaluation.specs.Place.{Place, outside}
-use Rattle.plain_evaluation.specs.Sound.{Among, has_place}
-use Rattle.plain_evaluation.specs.Written.{State, Scene, Says, given, loaded, derived, Written, place_of, in_row, in_area, write_attr, write_fields, write_all, write_step, write_item, write_items, pairs_among, written_in, at_top}
+use Rattle.plain_evaluation.specs.Place.{outside}
+use Rattle.plain_evaluation.specs.Sound.{Among}
+use Rattle.plain_evaluation.specs.Written.{State, Scene, given, loaded, derived, Written, place_of, in_row, in_area, write_attr, write_fields, write_all, write_step, write_item, write_items, pairs_among, written_in, at_top}
 use Rattle.plain_evaluation.proofs.Makes.{makes_sense}
 use Rattle.plain_evaluation.proofs.Origins.{have_origins}
 use Rattle.plan_meaning.specs.Layout.{is_computed, rows_of, places_of, row_of}

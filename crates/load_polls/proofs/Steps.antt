@@ -1,10 +1,8 @@
 -- One poll: what is asked before it, and what holds behind it.
-use Rattle.std.proofs.Common.{◌≡◌, ◌≢◌, ◌⊎◌, ℕ, zero, suc, ◌+◌, ◌-◌, ◌*◌, ◌^◌, ◌<◌, ◌≤◌, inl, inr, Bool, true, false, List, [], ◌∷◌, ◌++◌, map, length, set, get_or, slice_get, Contains, Option, Some, None, refl, sym, ap, subst, ◌∙◌, arith, length-set}
-use Rattle.std.specs.Prelude.{IsSome, IsSomeAnd}
+use Rattle.std.proofs.Common.{◌≡◌, ◌≢◌, ◌⊎◌, ℕ, zero, suc, ◌+◌, ◌-◌, ◌^◌, ◌<◌, ◌≤◌, inl, inr, true, false, List, [], ◌∷◌, ◌++◌, length, set, get_or, slice_get, Contains, Option, Some, None, refl, sym, ap, subst, ◌∙◌, arith, length-set}
 use Rattle.values.specs.declared.code.Code.{Code}
 use Rattle.values.specs.declared.plan.Kind.{Kind}
 use Rattle.values.specs.declared.plan.Kind.TheVariants as kind
-use Rattle.values.specs.declared.plan.Plan.{Plan}
 use Rattle.values.specs.declared.plan.PlanNode.{PlanNode}
 use Rattle.values.specs.Packing.{unpacked}
 use Rattle.values.specs.Plan.{rows_in}
@@ -23,31 +21,29 @@ use Rattle.plain_evaluation.specs.Held.{Holding, nothing, arrived, arrived_in, H
 use Rattle.plain_evaluation.specs.Keyed.{is_keyed}
 use Rattle.plain_evaluation.specs.Place.{Place, outside}
 use Rattle.plain_evaluation.specs.Sound.{Among}
-use Rattle.plain_evaluation.specs.Written.{State, state_of, written, Says, given, loaded, derived, kind_said, Written, place_of}
+use Rattle.plain_evaluation.specs.Written.{state_of, written, Says, given, loaded, derived, kind_said, Written}
 use Rattle.plain_evaluation.proofs.Fitting.{rows_of_held}
 use Rattle.plain_evaluation.proofs.Most.{changed}
 use Rattle.plan_meaning.specs.Layout.{is_computed, rows_of, places_of, row_of, node_of, plan_of}
 use Rattle.plan_meaning.specs.There.{AreNested}
 use Rattle.plan_meaning.proofs.Lines.{are_proper}
-use Rattle.plan_meaning.proofs.Rows.{row_among, at_map, map_at, row_got}
+use Rattle.plan_meaning.proofs.Rows.{row_among, at_map, map_at}
 use Rattle.held_state.specs.State.{HeldState, IsOf, with_held}
 use Rattle.load_table.specs.Loads.{LoadOf, loads_in, is_live_load}
-use Rattle.load_table.proofs.Keys.{behind_key}
-use Rattle.load_meaning.specs.Arrivals.{says_arrived, line_arrived, text_arrived}
+use Rattle.load_meaning.specs.Arrivals.{says_arrived, line_arrived}
 use Rattle.load_meaning.specs.Polls.{key_of, IsInStep, AreInStep}
 use Rattle.load_meaning.proofs.Arrives.{Arrives}
 use Rattle.load_meaning.proofs.Texts.{text_alike, rows_arrived, places_alike, plan_alike}
 use Rattle.load_meaning.proofs.Keys.{parts_at, at_among}
 use Rattle.load_meaning.proofs.Live.{holds_key, can_arrive}
-use Rattle.load_meaning.proofs.Loadings.{poll_arrived, poll_stands}
-use Rattle.load_meaning.proofs.Polls.{arrives, here, still_of, others_stay, own_key_same, keys_same}
-use Rattle.phase_graph.specs.Graph.{GraphState, AreSettledTo}
-use Rattle.load_polls.specs.Loads.{EffectsStay, HasMoved}
+use Rattle.load_meaning.proofs.Loadings.{poll_stands}
+use Rattle.load_meaning.proofs.Polls.{arrives, here, still_of, own_key_same, keys_same}
+use Rattle.phase_graph.specs.Graph.{GraphState}
 use Rattle.load_polls.specs.Shown.{load_code, SourcesShow}
-use Rattle.load_polls.specs.Stands.{Sweep, HasOwnKey, IsFitting, IsReady}
-use Rattle.load_polls.proofs.Lists.{set_here, set_other, fellow, row_value, same_value, coloured_value}
+use Rattle.load_polls.specs.Stands.{HasOwnKey}
+use Rattle.load_polls.proofs.Lists.{set_here, set_other}
 use Rattle.load_polls.proofs.Rising.{keys_rise}
-use Rattle.load_polls.proofs.Values.{three, apart as place_apart, HasRows, load_rows_at, load_line_at, key_node, key_settled}
+use Rattle.load_polls.proofs.Values.{three, apart as place_apart, HasRows, load_rows_at, load_line_at}
 
 -- ---- what the calls of the graph leave
 
@@ -176,10 +172,10 @@ module _ (component : Component) (kept : IsKept component) (state : HeldState) (
           let v = one.0 in
           let said = said_given (arrived_held later) v.id v.says k code (ap (λ (x : Written). x.says) one.2 ∙ says) in
           let apart : row ≢ rows_here.row = λ e. (
-              let lines : Some v ≡ Some rows_here.w = sym one.1 ∙ ap (slice_get (rows_of (written component held))) e ∙ rows_here.line in
-              let v_is : v ≡ rows_here.w = cc in
-              let both : given k code ≡ loaded load.pairs (arrived_held held load.id) = sym said ∙ ap (λ (x : Written). x.says) v_is ∙ rows_here.says in
-              cc) in
+          let lines : Some v ≡ Some rows_here.w = sym one.1 ∙ ap (slice_get (rows_of (written component held))) e ∙ rows_here.line in
+          let v_is : v ≡ rows_here.w = cc in
+          let both : given k code ≡ loaded load.pairs (arrived_held held load.id) = sym said ∙ ap (λ (x : Written). x.says) v_is ∙ rows_here.says in
+          cc) in
           others row (node_of (is_keyed component) (places_of (written component held)) v) (node_at row v one.1) (source_of v (row_among (written component held) row v one.1) (ap is_computed said)) apart
           ∙ shown.given_so row v k code one.1 said);
       loaded_so = λ row w pairs got is says. (
@@ -200,9 +196,9 @@ module _ (component : Component) (kept : IsKept component) (state : HeldState) (
             let node = node_of (is_keyed component) (places_of (written component held)) v in
             let l = load_line_at component (state_of held) kept fits nested row node v pairs before (node_at row v is) (ap kind_said says) is says in
             let id_apart : l.load.id ≢ load.id = λ e. (
-                let rows : Some row ≡ Some rows_here.row = sym (place_apart component (state_of held) kept fits nested row (outside l.load.id) l.here) ∙ ap (λ (n : ℕ). row_of (places_of (written component held)) (outside n)) e ∙ rows_here.found in
-                let row_is : row ≡ rows_here.row = cc in
-                apart row_is) in
+            let rows : Some row ≡ Some rows_here.row = sym (place_apart component (state_of held) kept fits nested row (outside l.load.id) l.here) ∙ ap (λ (n : ℕ). row_of (places_of (written component held)) (outside n)) e ∙ rows_here.found in
+            let row_is : row ≡ rows_here.row = cc in
+            apart row_is) in
             let same : before ≡ got = sym l.arrived_is ∙ sym (arrived_stays l.load.id id_apart) ∙ ap (arrived_held later) (sym l.id_is) ∙ told in
             others row node (node_at row v is) (source_of v (row_among (written component held) row v is) (ap is_computed says)) apart
             ∙ shown.loaded_so row v pairs before is says
@@ -284,4 +280,3 @@ module _ (component : Component) (kept : IsKept component) (state : HeldState) (
             last = λ k is. (ap (λ (l : Loading). l.key) loading_is ∙ poll_stands was code came mine.last k (ap (λ (l : Loading). l.arrived) (sym loading_is) ∙ is));
           }
       by j other loading at_other at_loading live_other (inr (inr gt)) = apart j other loading at_other at_loading live_other (λ e. absurd (omega (arith, e, gt)))
-

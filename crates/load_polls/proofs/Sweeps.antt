@@ -1,5 +1,5 @@
 -- One load more was polled.
-use Rattle.std.proofs.Common.{◌≡◌, ◌⊎◌, ℕ, zero, suc, ◌+◌, ◌*◌, ◌<◌, ◌≤◌, inl, inr, not, if◌then◌else◌, Bool, true, false, List, [], ◌∷◌, ◌++◌, length, set, take, slice_get, Option, Some, None, refl, sym, ap, subst, ◌∙◌, arith, length-append, length-set}
+use Rattle.std.proofs.Common.{◌≡◌, ℕ, suc, ◌+◌, ◌≤◌, inl, inr, not, if◌then◌else◌, Bool, true, false, List, [], ◌∷◌, ◌++◌, length, set, take, slice_get, Some, refl, sym, ap, subst, ◌∙◌, arith, length-append, length-set}
 use Rattle.std.specs.List.{filter}
 use Rattle.std.proofs.Math.Seq.{take-length, take-suc-set}
 use Rattle.std.proofs.lemmas.List.{append-nil, length-take-le}
@@ -7,7 +7,6 @@ use Rattle.std.proofs.lemmas.List.Elements.{filter-append}
 use Rattle.std.proofs.lemmas.Option.{slice_get_within}
 use Rattle.values.specs.declared.code.Code.{Code}
 use Rattle.values.specs.declared.plan.Plan.{Plan}
-use Rattle.values.specs.declared.plan.PlanNode.{PlanNode}
 use Rattle.values.specs.PlanValues.{value_at, HaveSameSources}
 use Rattle.sources.specs.declared.opening.Opened.{Opened}
 use Rattle.sources.specs.Rows.{value_in}
@@ -17,24 +16,21 @@ use Rattle.outside.specs.Asks.{Ask}
 use Rattle.outside.specs.Counts.{RoseBy}
 use Rattle.outside.specs.declared.traits.Arrival.{Arrival}
 use Rattle.async_derived.specs.declared.loading.Loading.{Loading}
-use Rattle.async_derived.specs.declared.loading.Polled.{Polled}
 use Rattle.async_derived.specs.Loads.{after_poll, prompt_poll}
 use Rattle.plain_evaluation.specs.Changed.{with_arrived}
 use Rattle.plain_evaluation.specs.Held.{Held}
 use Rattle.plain_evaluation.specs.Place.{Place}
 use Rattle.plain_evaluation.specs.Written.{state_of}
 use Rattle.plain_evaluation.proofs.Fitting.{rows_of_held}
-use Rattle.plan_meaning.specs.Layout.{plan_of}
 use Rattle.plan_meaning.specs.Values.{row_values}
 use Rattle.plan_meaning.proofs.Owners.{lawful}
-use Rattle.held_state.specs.State.{HeldState, with_held}
+use Rattle.held_state.specs.State.{HeldState}
 use Rattle.load_table.specs.Loads.{LoadOf, loads_in, is_live_load}
 use Rattle.load_meaning.specs.declared.late.Late.{Late}
 use Rattle.load_meaning.specs.Polls.{Progress, key_of, late_as, ArePolled, none, passed, polled, AllPolled, promptly_one, all_promptly, some_promptly}
-use Rattle.load_meaning.proofs.Polls.{some_at}
 use Rattle.load_meaning.proofs.Promptly.{one_more_promptly, all_of_them}
 use Rattle.phase_graph.specs.Graph.{GraphState}
-use Rattle.load_polls.specs.Loads.{is_not_yet, not_yet_count, failed_count, HasMoved, EffectsStay, progress_of}
+use Rattle.load_polls.specs.Loads.{is_not_yet, not_yet_count, failed_count, HasMoved, progress_of}
 use Rattle.load_polls.specs.Stands.{Sweep, IsReady, IsPassed, IsTaken, IsTurned, ArePolledTo}
 use Rattle.load_polls.proofs.Lists.{fellow, set_other, take_one_more}
 use Rattle.load_polls.proofs.Values.{source_value}

@@ -1,5 +1,5 @@
 -- One poll of a live load, from what held before it.
-use Rattle.std.proofs.Common.{◌≡◌, ◌≢◌, ◌⊎◌, ◌↔◌, ℕ, zero, suc, ◌+◌, ◌-◌, ◌*◌, ◌^◌, ◌<◌, ◌≤◌, inl, inr, Bool, true, false, List, [], ◌∷◌, ◌++◌, length, set, slice_get, Contains, Option, Some, None, refl, sym, ap, subst, ◌∙◌, arith}
+use Rattle.std.proofs.Common.{◌≡◌, ◌≢◌, ◌↔◌, ℕ, suc, ◌+◌, ◌-◌, ◌*◌, ◌^◌, ◌<◌, ◌≤◌, Bool, true, false, List, [], length, set, slice_get, Contains, Option, Some, refl, sym, ap, subst, ◌∙◌, arith}
 use Rattle.std.specs.Prelude.{IsSome, IsSomeAnd}
 use Rattle.std.specs.Option.{option_map_or}
 use Rattle.std.proofs.lemmas.Option.{slice_get_within}
@@ -8,11 +8,8 @@ use Rattle.values.specs.declared.plan.Kind.{Kind}
 use Rattle.values.specs.declared.plan.Kind.TheVariants as kind
 use Rattle.values.specs.declared.plan.Plan.{Plan}
 use Rattle.values.specs.declared.plan.PlanNode.{PlanNode}
-use Rattle.values.specs.Packing.{unpacked}
 use Rattle.values.specs.Plan.{rows_in}
 use Rattle.values.specs.PlanValues.{is_derived, plan_value}
-use Rattle.sources.specs.declared.opening.Opened.{Opened}
-use Rattle.sources.specs.Colours.{is_clean}
 use Rattle.sources.specs.Rows.{value_in}
 use Rattle.component_items.specs.declared.component.Component.{Component}
 use Rattle.component_items.specs.Kept.{IsKept}
@@ -36,9 +33,9 @@ use Rattle.load_table.specs.Table.{pairs_at}
 use Rattle.load_meaning.specs.Polls.{key_of, late_as, IsPolled}
 use Rattle.load_meaning.proofs.Loadings.{poll_arrived}
 use Rattle.phase_graph.specs.Graph.{GraphState, AreSettledTo}
-use Rattle.load_polls.specs.Loads.{EffectsStay, HasMoved}
+use Rattle.load_polls.specs.Loads.{HasMoved}
 use Rattle.load_polls.specs.Shown.{load_code, SourcesShow}
-use Rattle.load_polls.specs.Stands.{Sweep, sweep_of, HasOwnKey, IsFitting, IsReady, IsTaken}
+use Rattle.load_polls.specs.Stands.{Sweep, sweep_of, IsReady, IsTaken}
 use Rattle.load_polls.proofs.Lists.{fellow, row_value, same_value, coloured_value}
 use Rattle.load_polls.proofs.Rising.{keys_rise}
 use Rattle.load_polls.proofs.Steps.{IsSpanned, IsPut, fits, nested, rows_here, holds, id_few, of_later, places_later, plan_later, shown_later, own_keys, in_step_later}

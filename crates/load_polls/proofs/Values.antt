@@ -1,5 +1,5 @@
 -- Valuations of the rows of a plan: where they agree at what a memo names, they agree at the memo.
-use Rattle.std.proofs.Common.{if◌then◌else◌, ◌≡◌, ◌≢◌, ◌⊎◌, ℕ, zero, suc, ◌+◌, ◌<◌, ◌≤◌, inl, inr, Bool, true, false, List, map, length, slice_get, Contains, Option, Some, None, refl, sym, ap, subst, ◌∙◌, arith}
+use Rattle.std.proofs.Common.{if◌then◌else◌, ◌≡◌, ◌≢◌, ◌⊎◌, ℕ, zero, suc, ◌<◌, inl, inr, Bool, true, false, List, slice_get, Contains, Option, Some, None, refl, sym, ap, subst, ◌∙◌, arith}
 use Rattle.std.specs.Prelude.{IsSomeAnd}
 use Rattle.values.specs.declared.code.Code.{Code}
 use Rattle.values.specs.declared.code.Code.TheVariants.{Empty}
@@ -254,6 +254,6 @@ module _ (component : Component) (state : State) (kept : IsKept component) (fits
       sources row named node source lt at_row has at_source d same =
           plan_value-source nodes (value_in rows) (lawful_back (plan_of component state) is_plan_lawful) named source at_source d
           ∙ source_value rows shown named source at_source d (λ j other at_other live_other here is_load. (
-              let one = load_rows_at j other at_other live_other in
-              let low = behind_key component state kept fits row node at_row named has (outside other.id) source here at_source is_load one.key one.key_found in
-              own j other (earlier j place other load key at_other at live_other live one.key one.key_found found (omega (arith, low, lt))) at_other live_other))
+          let one = load_rows_at j other at_other live_other in
+          let low = behind_key component state kept fits row node at_row named has (outside other.id) source here at_source is_load one.key one.key_found in
+          own j other (earlier j place other load key at_other at live_other live one.key one.key_found found (omega (arith, low, lt))) at_other live_other))

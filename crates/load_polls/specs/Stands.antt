@@ -1,5 +1,5 @@
 -- What holds before the load at a place is polled, where those before it were.
-use Rattle.std.specs.Prelude.{◌≡◌, ◌⊎◌, ℕ, suc, ◌+◌, ◌^◌, ◌<◌, ◌≤◌, Bool, true, false, List, [], ◌++◌, length, take, slice_get, slice_set, Option, Some, None}
+use Rattle.std.specs.Prelude.{◌≡◌, ◌⊎◌, ℕ, suc, ◌^◌, ◌<◌, ◌≤◌, Bool, true, false, List, [], length, take, slice_get, slice_set, Some, None}
 use Rattle.component_items.specs.declared.component.Component.{Component}
 use Rattle.outside.specs.Asks.{Ask}
 use Rattle.outside.specs.declared.traits.Arrival.{Arrival}

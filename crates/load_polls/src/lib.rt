@@ -7,4 +7,3 @@ mod polling;
 
 pub use load_meaning::Late;
 pub use loads::{Loads, Pending};
-

@@ -116,6 +116,13 @@ impl Loads {
             owners,
             names,
         };
-        poll_all(&sides, self.loadings.as_mut_slice(), held, graph, late, loader);
+        poll_all(
+            &sides,
+            self.loadings.as_mut_slice(),
+            held,
+            graph,
+            late,
+            loader,
+        );
     }
 }

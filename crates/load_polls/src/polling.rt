@@ -104,7 +104,9 @@ fn poll_at<L: Loader>(
     if !held.is_live(sides.owners.owner(load.id)) {
         return from;
     }
-    poll_live(sides, place, load, from, loadings, held, graph, late, loader)
+    poll_live(
+        sides, place, load, from, loadings, held, graph, late, loader,
+    )
 }
 
 /// Polls the live load at the place.

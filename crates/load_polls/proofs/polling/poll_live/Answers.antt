@@ -1,10 +1,9 @@
-use Rattle.std.proofs.Common.{◌≡◌, ℕ, suc, ◌+◌, ◌<◌, ◌^◌, List, get_or, set, slice_get, true, false, Some, IsSome, refl, sym, ap, subst, ◌∙◌, arith}
+use Rattle.std.proofs.Common.{◌≡◌, ℕ, suc, ◌+◌, ◌<◌, ◌^◌, List, get_or, set, slice_get, true, false, Some, IsSome, sym, ap, subst, ◌∙◌, arith}
 use Rattle.std.specs.Prelude.{IsSomeAnd}
 use Rattle.std.proofs.lemmas.Bool.{OnTrue_at}
 use Rattle.std.proofs.lemmas.Option.{slice_get-get_or}
 use Rattle.values.specs.declared.plan.Plan.{Plan}
 use Rattle.values.specs.PlanValues.{is_derived}
-use Rattle.async_derived.specs.declared.loading.Loading.{Loading}
 use Rattle.async_derived.specs.Loads.{first_load, answer_of, keyed, prompt_poll}
 use Rattle.plain_evaluation.specs.Changed.{load_of, with_arrived}
 use Rattle.plain_evaluation.specs.Place.{outside, position_of}
@@ -18,7 +17,7 @@ use Rattle.phase_graph.specs.Graph.{GraphState}
 use Rattle.load_polls.specs.Shown.{load_code}
 use Rattle.load_polls.specs.Stands.{sweep_of, IsTaken}
 use Rattle.load_polls.proofs.Steps.{IsSpanned, IsPut}
-use Rattle.load_polls.proofs.Turns.{has_row, has_key, id_fits, can_note, key_within, key_few, is_source, from_below, key_value, moved, turn_ready, turn_taken, pairs_there}
+use Rattle.load_polls.proofs.Turns.{has_row, has_key, id_fits, can_note, key_within, key_few, is_source, key_value, moved, turn_ready, turn_taken, pairs_there}
 use Rattle.load_polls.proofs.polling.poll_live.Goals as goal
 
 pub load_rows-rows-requires-clause-few : goal.load_rows-rows-requires-clause-few
@@ -214,16 +213,15 @@ returns-clause-taken g c =
     let held_is : c.arrive.new.self ≡ with_held c.args.held.now (with_arrived c.args.held.now.held one.id c.poll-came.new.self.arrived) = c.arrive.ensures ∙ ap (λ (n : ℕ). with_held c.args.held.now (with_arrived c.args.held.now.held n c.poll-came.new.self.arrived)) (sym id_is) in
     let read_is = c.row_code-key.ensures ∙ key_value component kept names c.args.place c.args.from x c.requires.ready one at live c.load_rows-rows.result.load c.load_rows-rows.result.key row_is key_is c.settle_span.new.self span in
     let asked = subst (λ (l : Load). ¬ (was.arrived ≡ Some c.row_code-key.result) → g.L.Loader.answers c.args.loader.now (record { resource = l.resource; key = c.row_code-key.result; after = l.after; asked = (keyed was c.row_code-key.result).asked }) (answer_of c.poll-came.result) c.poll-came.new.loader) (sym alone) c.poll-came.ensures.asked in
-    let prompt : g.L.Loader.is_prompt ≡ true → c.poll-came.result ≡ prompt_poll was c.row_code-key.result one.after = λ e. subst (λ (l : Load). c.poll-came.result ≡ prompt_poll was c.row_code-key.result l.after) (sym alone) (OnTrue_at e c.poll-came.ensures.prompt) in
-    (
+    let prompt : g.L.Loader.is_prompt ≡ true → c.poll-came.result ≡ prompt_poll was c.row_code-key.result one.after = λ e. subst (λ (l : Load). c.poll-came.result ≡ prompt_poll was c.row_code-key.result l.after) (sym alone) (OnTrue_at e c.poll-came.ensures.prompt) in (
       late_as c.args.load.id c.poll-came.result,
       c.note.ensures.list,
       λ other at_other. (
-        let both : Some one ≡ Some other = sym at ∙ at_other in
-        let same : one ≡ other = cc in
-        subst (λ (l : LoadOf). IsTaken g.L.Loader.answers g.L.Loader.is_prompt component c.args.place l x (sweep_of c.arrive.new.self (set c.args.loadings.now c.args.place c.poll-came.new.self) c.put.new.self) (late_as c.args.load.id c.poll-came.result) c.args.loader.now c.poll-came.new.loader) same
-        (subst (λ (n : ℕ). IsTaken g.L.Loader.answers g.L.Loader.is_prompt component c.args.place one x (sweep_of c.arrive.new.self (set c.args.loadings.now c.args.place c.poll-came.new.self) c.put.new.self) (late_as n c.poll-came.result) c.args.loader.now c.poll-came.new.loader) id_is
-        (turn_taken g.L.Loader.answers g.L.Loader.is_prompt component c.args.place x one live was c.poll-came.new.self c.poll-came.result c.row_code-key.result c.args.loader.now c.poll-came.new.loader at_was read_is c.poll-came.ensures.state c.poll-came.ensures.arrived c.poll-came.ensures.unasked asked prompt c.arrive.new.self c.put.new.self held_is))),
+          let both : Some one ≡ Some other = sym at ∙ at_other in
+          let same : one ≡ other = cc in
+          subst (λ (l : LoadOf). IsTaken g.L.Loader.answers g.L.Loader.is_prompt component c.args.place l x (sweep_of c.arrive.new.self (set c.args.loadings.now c.args.place c.poll-came.new.self) c.put.new.self) (late_as c.args.load.id c.poll-came.result) c.args.loader.now c.poll-came.new.loader) same
+          (subst (λ (n : ℕ). IsTaken g.L.Loader.answers g.L.Loader.is_prompt component c.args.place one x (sweep_of c.arrive.new.self (set c.args.loadings.now c.args.place c.poll-came.new.self) c.put.new.self) (late_as n c.poll-came.result) c.args.loader.now c.poll-came.new.loader) id_is
+          (turn_taken g.L.Loader.answers g.L.Loader.is_prompt component c.args.place x one live was c.poll-came.new.self c.poll-came.result c.row_code-key.result c.args.loader.now c.poll-came.new.loader at_was read_is c.poll-came.ensures.state c.poll-came.ensures.arrived c.poll-came.ensures.unasked asked prompt c.arrive.new.self c.put.new.self held_is))),
     )
 
 pub returns-clause-moved : goal.returns-clause-moved

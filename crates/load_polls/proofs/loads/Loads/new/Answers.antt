@@ -1,4 +1,4 @@
-use Rattle.std.proofs.Common.{replicate, length, map, ap, ◌∙◌}
+use Rattle.std.proofs.Common.{replicate, length, ap, ◌∙◌}
 use Rattle.async_derived.specs.Loads.{first_load}
 use Rattle.load_table.specs.Loads.{loads_in}
 use Rattle.load_polls.proofs.Lists.{all_first}
