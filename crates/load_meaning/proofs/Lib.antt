@@ -5,6 +5,7 @@ pub mod Live
 pub mod Loadings
 pub mod Polls
 pub mod Promptly
+pub mod Rows
 pub mod Steps
 pub mod Texts
 pub mod Unasked

@@ -49,7 +49,7 @@ keyed_arrived load key stands = at (is_key load.key key) refl
     at true is = here load.arrived refl (key_is load.key key is)
     at false is = inl refl
 
-asked_key : (load : Loading) (key : Code) (came : Polled) → (after_ask load key came).key ≡ load.key
+pub asked_key : (load : Loading) (key : Code) (came : Polled) → (after_ask load key came).key ≡ load.key
 asked_key load key Arrived = refl
 asked_key load key Waiting = refl
 asked_key load key Fault = refl

@@ -3,5 +3,6 @@
 
 mod late;
 pub mod laws;
+pub mod worked;
 
 pub use late::Late;
