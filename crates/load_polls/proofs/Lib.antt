@@ -4,3 +4,4 @@ pub mod Values
 pub mod Steps
 pub mod Turns
 pub mod Sweeps
+pub mod WorkedKept

@@ -1,3 +1,4 @@
 pub mod Loads
 pub mod Shown
 pub mod Stands
+pub mod Worked

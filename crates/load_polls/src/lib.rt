@@ -7,3 +7,6 @@ mod polling;
 
 pub use load_meaning::Late;
 pub use loads::{Loads, Pending};
+
+#[cfg(test)]
+mod tests;
