@@ -27,7 +27,7 @@ use Rattle.plan_meaning.proofs.Settled.{evaluation_settles}
 use Rattle.load_table.specs.Loads.{LoadOf, loads_in, is_live_load}
 use Rattle.load_table.proofs.Pending.{load_has_row, row_has_load}
 use Rattle.load_meaning.specs.Polls.{key_of}
-use Rattle.load_polls.specs.Shows.{load_code}
+use Rattle.load_polls.specs.Shown.{load_code}
 use Rattle.still_graph.specs.Stands.{KeysStand}
 
 -- the load of the table whose line this is
@@ -104,23 +104,3 @@ plain_load component held kept fits nested stand row w pairs now at says =
     let same_id : w.id ≡ line.load.id = ap (λ (p : Place). p.id) line.place_is in
     value_of_load component (state_of held) kept fits row w pairs now at says (key_of component held line.load) (ap (λ (id : ℕ). scratch_in component (state_of held) (outside (suc id))) same_id)
     ∙ standing pairs now (key_of component held line.load) (subst (λ (o : Option Code). (o ≡ None) ⊎ (o ≡ Some (key_of component held line.load))) (sym line.arrived_is) (stand line.place line.load line.at line.live))
-
--- ---- from one layout to another
-
--- the rows of loads have these values
-abbrev pub LoadsShow : Component → State → (ℕ → Code) → Type 0
-LoadsShow component state values = (row : ℕ) (w : Written) (pairs : List (Code × Code)) (now : Option Code) → slice_get (rows_of (written_in component state)) row ≡ Some w → w.says ≡ loaded pairs now → values row ≡ load_code pairs now
-
--- where each load that is live now was live, with the same key, and its row has the value that it had
-pub loads_show : (component : Component) (old new : State) → IsKept component → RowsFit component new → AreNested component old → AreNested component new
-    → ((load : LoadOf) → is_live_load component new load ≡ true → is_live_load component old load ≡ true)
-    → ((load : LoadOf) → is_live_load component new load ≡ true → new.arrived load.id ≡ old.arrived load.id)
-    → (values later : ℕ → Code)
-    → ((row next : ℕ) (load : LoadOf) → slice_get (places_of (written_in component old)) row ≡ Some (outside load.id) → slice_get (places_of (written_in component new)) next ≡ Some (outside load.id) → later next ≡ values row)
-    → LoadsShow component old values → LoadsShow component new later
-loads_show component old new kept fits nested nested_new lived same values later went show row w pairs now at says =
-    let line = line_of_load component new kept fits row w pairs now at says nested_new in
-    let before = load_has_row component old kept nested line.place line.load line.at (lived line.load line.live) in
-    went before.0 row line.load before.1 (at_map place_of (rows_of (written_in component new)) row w at ∙ ap (λ (p : Place). Some p) line.place_is)
-    ∙ show before.0 before.2.0 line.load.pairs (old.arrived line.load.id) before.2.1 before.2.2
-    ∙ (λ i. load_code (sym line.pairs_are i) ((sym (same line.load line.live) ∙ sym line.arrived_is) i))

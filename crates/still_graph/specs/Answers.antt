@@ -1,7 +1,6 @@
 -- What the calls answer.
-use Rattle.std.specs.Prelude.{ℕ, Bool, true, false, not, List, [], map, count_by}
+use Rattle.std.specs.Prelude.{ℕ, List, [], map}
 use Rattle.load_meaning.specs.declared.late.Late.{Late}
-use Rattle.load_meaning.specs.declared.late.Late.TheVariants.{NotYet, Failed}
 use Rattle.run_meaning.specs.Opened.{Target as Target-Meant, at_row, at_none, at_dead}
 use Rattle.still_graph.specs.declared.still.Target.{Target}
 use Rattle.still_graph.specs.declared.still.Target.TheVariants as target
@@ -20,14 +19,3 @@ late_of (settled.Waiting pending) = pending
 
 abbrev pub ids_of : Settled → List ℕ
 ids_of settled = map (λ l. l.0) (late_of settled)
-
--- how many of them are not here yet, and of how many the call failed
-abbrev pub is_not_yet : Late → Bool
-is_not_yet NotYet = true
-is_not_yet Failed = false
-
-abbrev pub not_yets_in : List (ℕ × Late) → ℕ
-not_yets_in late = count_by (λ l. is_not_yet l.1) late
-
-abbrev pub faults_in : List (ℕ × Late) → ℕ
-faults_in late = count_by (λ l. not (is_not_yet l.1)) late

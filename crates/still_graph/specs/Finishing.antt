@@ -7,6 +7,7 @@ use Rattle.component_items.specs.Kept.{IsKept}
 use Rattle.outside.specs.Asks.{Ask}
 use Rattle.outside.specs.declared.traits.Arrival.{Arrival}
 use Rattle.sources.specs.declared.opening.Opened as rows
+use Rattle.store_fields.specs.declared.edit.Verdict.{Verdict}
 use Rattle.plain_evaluation.specs.Held.{arrived_held}
 use Rattle.plain_evaluation.specs.Place.{Place}
 use Rattle.plain_evaluation.specs.Scratch.{pending}
@@ -16,7 +17,7 @@ use Rattle.held_state.specs.State.{HeldState, IsOf, with_held}
 use Rattle.load_table.specs.Loads.{loads_in}
 use Rattle.load_meaning.specs.declared.late.Late.{Late}
 use Rattle.load_meaning.specs.Polls.{Progress, AllPolled, AreInStep, all_promptly}
-use Rattle.load_polls.specs.Shows.{SourcesShow}
+use Rattle.load_polls.specs.Shown.{SourcesShow}
 use Rattle.load_polls.specs.Loads.{LoadsState}
 use Rattle.run_meaning.specs.Phase.{Phase}
 use Rattle.run_meaning.specs.Run.{held_arrived}
@@ -53,8 +54,7 @@ pub record IsFinished {S : Type 0} (answers : S → Ask → Arrival → S → Ty
   pub plan : later.plan ≡ plan_of component (state_of new.held)
   pub drawn : later.drawn ≤ graph.drawn + 12288
   pub values : HasPlainValues component new.held later
-  pub effects : (n : ℕ) (node : PlanNode) (one two : rows.Opened) → slice_get graph.plan.nodes n ≡ Some node → node.kind ≡ kind.Effect → slice_get graph.rows n ≡ Some one → slice_get later.rows n ≡ Some two → two ≡ record one { colour = two.colour }
-  pub paired : (n : ℕ) (two : rows.Opened) → slice_get later.rows n ≡ Some two → (one : rows.Opened) × (slice_get graph.rows n ≡ Some one)
+  pub effects : (n : ℕ) (node : PlanNode) (two : rows.Opened) → slice_get graph.plan.nodes n ≡ Some node → node.kind ≡ kind.Effect → slice_get later.rows n ≡ Some two → (one : rows.Opened) × (slice_get graph.rows n ≡ Some one) × (two ≡ record one { colour = two.colour })
   pub loads_are : polled_loads.loads ≡ loads.loads
   pub polled : AllPolled answers component (progress_at old loads) (progress_at new polled_loads) late before after
   pub prompt : is_prompt ≡ true → progress_at new polled_loads ≡ all_promptly component (progress_at old loads)
@@ -63,15 +63,17 @@ pub record IsFinished {S : Type 0} (answers : S → Ask → Arrival → S → Ty
   pub arrived : new.held ≡ held_arrived (arrived_held new.held) old.held
   pub waits : map (λ l. l.0) late ≡ pending component new.held
 
--- the graph `mid` stands where the loads of `old` are polled
-pub record IsMidway (old mid : StillState) : Type 0 where
-  pub rest : mid ≡ record old { state = with_held old.state mid.state.held; places = mid.places; graph = mid.graph; verdicts = mid.verdicts }
-  pub middle : IsMiddle old mid.state.held
-  pub base : mid.graph.base ≡ ticks_of old.graph
-  pub first : old.stage ≡ Made → (old.journal ≡ []) × HasRun [] mid
-  pub after_phase : (past : List Phase) (p : Phase) → HasEnded past p old → HasRun (past ++ p ∷ []) mid × AreTold p mid.verdicts
-  pub again : old.stage ≡ Settled → (past : List Phase) → IsSettledAfter past old → HasRun past mid
-  pub stay : old.stage ≡ Settled → mid.verdicts ≡ old.verdicts
+abbrev pub midway : StillState → HeldState → List Place → GraphState → List (List Verdict) → StillState
+midway old state places graph verdicts = record old { state = state; places = places; graph = graph; verdicts = verdicts }
+
+-- with these the graph stands where the loads of `old` are polled
+pub record IsMidway (old : StillState) (state : HeldState) (places : List Place) (graph : GraphState) (verdicts : List (List Verdict)) : Type 0 where
+  pub middle : IsMiddle old state.held
+  pub base : graph.base ≡ ticks_of old.graph
+  pub first : old.stage ≡ Made → (old.journal ≡ []) × HasRun [] (midway old state places graph verdicts)
+  pub after_phase : (past : List Phase) (p : Phase) → HasEnded past p old → HasRun (past ++ p ∷ []) (midway old state places graph verdicts) × AreTold p verdicts
+  pub again : old.stage ≡ Settled → (past : List Phase) → IsSettledAfter past old → HasRun past (midway old state places graph verdicts)
+  pub stay : old.stage ≡ Settled → verdicts ≡ old.verdicts
 
 -- the whole of a settling
 pub record Settles {S : Type 0} (answers : S → Ask → Arrival → S → Type 0) (is_prompt : Bool) (old new : StillState) (late : List (ℕ × Late)) (before after : S) : Type 0 where

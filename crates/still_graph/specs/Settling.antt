@@ -13,13 +13,13 @@ use Rattle.plain_evaluation.specs.Scratch.{pending}
 use Rattle.held_state.specs.State.{IsOf, with_held}
 use Rattle.load_meaning.specs.declared.late.Late.{Late}
 use Rattle.load_meaning.specs.Polls.{AllPolled, AreInStep, all_promptly}
+use Rattle.load_polls.specs.Loads.{not_yet_count, failed_count}
 use Rattle.run_meaning.specs.Edits.{held_written, held_edited, edits_of}
 use Rattle.run_meaning.specs.Entries.{disposed_in}
 use Rattle.run_meaning.specs.Phase.{Phase}
 use Rattle.run_meaning.specs.Run.{held_arrived, held_disposed}
 use Rattle.phase_graph.specs.Graph.{ticks_of}
 use Rattle.phase_edits.specs.Told.{AreTold}
-use Rattle.still_graph.specs.Answers.{not_yets_in, faults_in}
 use Rattle.still_graph.specs.Still.{StillState, progress_from, progress_of, HasRun, HasEnded}
 use Rattle.still_graph.specs.declared.still.Stage.TheVariants.{Made, Settled}
 
@@ -48,8 +48,8 @@ pub record IsSettling {S : Type 0} (answers : S → Ask → Arrival → S → Ty
 
 -- the loader has counted each load that is late
 pub record AreCounted (late : List (ℕ × Late)) (not_yets_before not_yets_after faults_before faults_after : ℕ) : Type 0 where
-  pub not_yets : RoseBy (not_yets_in late) not_yets_before not_yets_after
-  pub faults : RoseBy (faults_in late) faults_before faults_after
+  pub not_yets : RoseBy (not_yet_count late) not_yets_before not_yets_after
+  pub faults : RoseBy (failed_count late) faults_before faults_after
 
 -- ---- where a phase leaves the rows that there are
 

@@ -19,7 +19,7 @@ use Rattle.plan_meaning.specs.Values.{row_values}
 use Rattle.held_state.specs.State.{HeldState, IsOf}
 use Rattle.load_table.specs.Loads.{LoadOf, loads_in, is_live_load}
 use Rattle.load_meaning.specs.Polls.{AreInStep, key_of}
-use Rattle.load_polls.specs.Shows.{SourcesShow}
+use Rattle.load_polls.specs.Shown.{SourcesShow}
 use Rattle.run_items.specs.Journal.{JournalPhase}
 use Rattle.run_meaning.specs.Words.{In}
 use Rattle.run_meaning.specs.Opened.{Opened}

@@ -11,9 +11,9 @@ mod still;
 mod ways;
 
 pub use journal::Journal;
-pub use load_meaning::Late;
+pub use load_polls::{Late, Pending};
 pub use loads::has_load;
-pub use settling::{Pending, Settled};
+pub use settling::Settled;
 pub use still::{Stage, Still, Target};
 
 #[cfg(test)]

@@ -11,13 +11,10 @@ ghost use Rattle.still_graph.specs.Settling.{IsSettling, AreCounted};
 ghost use Rattle.still_graph.specs.Still.{IsSettledAfter, HasEnded};
 
 use crate::still::{Stage, Still};
-use load_meaning::Late;
+use load_polls::{Late, Pending};
 use outside::Loader;
 use std::alloc::Global;
-use values::{NoMemory, Reserved, Sequence};
-
-/// The loads that are pending, by their ids, with why, in order of declaration.
-pub type Pending = Sequence<(u32, Late)>;
+use values::{NoMemory, Reserved};
 
 /// How a settling ended.
 #[derive(Debug, Drop)]

@@ -10,9 +10,8 @@ ghost use Rattle.still_graph.specs.Settling as spec;
 
 use crate::finishing::finish;
 use crate::still::{Stage, Still};
-use held_rows::write_back;
-use load_meaning::Late;
-use next_layout::Next;
+use load_polls::Late;
+use next_layout::{Next, fold_in_place};
 use outside::Loader;
 use std::alloc::Global;
 use values::{Fact, NoMemory, Noted, Reserved};
@@ -28,6 +27,7 @@ impl Still {
         ensures settles { Settles L.answers L.is_prompt self.old self.new late.new.list loader.old loader.new }
         ensures counted { AreCounted late.new.list (L.not_yets loader.old) (L.not_yets loader.new) (L.faults loader.old) (L.faults loader.new) }
     {
+        let _plan = self.graph.plan();
         self.graph.rebase();
         finish(
             &self.component,
@@ -100,12 +100,7 @@ impl Still {
         ensures counted { AreCounted late.new.list (L.not_yets loader.old) (L.not_yets loader.new) (L.faults loader.old) (L.faults loader.new) }
     {
         let _plan = self.graph.plan();
-        write_back(
-            &mut self.held,
-            &self.component,
-            &self.names,
-            self.graph.rows(),
-        );
+        fold_in_place(&mut self.held, &self.component, &self.names, &self.graph);
         self.verdicts.clear();
         self.graph.rebase();
         finish(
