@@ -1,5 +1,5 @@
 -- Each way ends in one: the loads are polled, and all is brought up to date.
-use Rattle.std.proofs.Common.{◌≡◌, ℕ, ◌+◌, ◌≤◌, Bool, true, List, Some, slice_get, refl, sym, ap, subst, ◌∙◌, arith}
+use Rattle.std.proofs.Common.{◌≡◌, ℕ, ◌+◌, ◌≤◌, Bool, true, List, [], ◌∷◌, ◌++◌, Some, slice_get, refl, sym, ap, subst, ◌∙◌, arith}
 use Rattle.values.specs.declared.plan.Plan.{Plan}
 use Rattle.values.specs.Packing.{unpacked}
 use Rattle.sources.specs.declared.opening.Opened as rows
@@ -61,8 +61,8 @@ module _ {S : Type 0} (answers : S → Ask → Arrival → S → Type 0) (is_pro
     };
     arrived = finished.arrived;
     waits = finished.waits;
-    first = λ is. (let one = way.first is in record { stage = refl; journal = one.0; ran = run_on _ one.1 });
-    after_phase = λ past p ended. (let one = way.after_phase past p ended in (record { stage = refl; journal = ended.journal; ran = run_on _ one.0 }, one.1));
+    first = λ is. (let one = way.first is in record { stage = refl; journal = one.0; ran = run_on [] one.1 });
+    after_phase = λ past p ended. (let one = way.after_phase past p ended in (record { stage = refl; journal = ended.journal; ran = run_on (past ++ p ∷ []) one.0 }, one.1));
     again = λ is past settled. record { stage = refl; journal = settled.journal; ran = run_on past (way.again is past settled) };
     stay = way.stay;
     ticks_raised = (

@@ -1,5 +1,6 @@
 -- The loads are polled, and then every memo is brought up to date.
-use Rattle.std.proofs.Common.{◌≡◌, ℕ, ◌+◌, ◌≤◌, Bool, true, false, List, map, length, Some, slice_get, sym, ap, subst, ◌∙◌, arith}
+use Rattle.std.proofs.Common.{◌≡◌, ◌⊎◌, ℕ, ◌+◌, ◌≤◌, Bool, true, false, List, map, length, Option, Some, None, slice_get, sym, ap, subst, ◌∙◌, arith}
+use Rattle.values.specs.declared.code.Code.{Code}
 use Rattle.values.specs.declared.plan.Kind.TheVariants as kind
 use Rattle.values.specs.declared.plan.Plan.{Plan}
 use Rattle.values.specs.declared.plan.PlanNode.{PlanNode}
@@ -18,7 +19,9 @@ use Rattle.plan_meaning.specs.Values.{row_values}
 use Rattle.plan_meaning.proofs.Owners.{lawful}
 use Rattle.held_state.specs.State.{HeldState, IsOf, with_held}
 use Rattle.load_meaning.specs.declared.late.Late.{Late}
-use Rattle.load_meaning.specs.Polls.{AllPolled, AreInStep, all_promptly}
+use Rattle.load_table.specs.Loads.{loads_in}
+use Rattle.load_meaning.specs.Polls.{key_of, AllPolled, AreInStep, all_promptly}
+use Rattle.load_meaning.proofs.Steps.{arrived_or_not, arrivals, late_pending}
 use Rattle.load_polls.specs.Loads.{LoadsState, HasMoved}
 use Rattle.next_layout.proofs.Rows.{fellow}
 use Rattle.phase_graph.specs.Graph.{GraphState}
@@ -58,7 +61,10 @@ module _ {S : Type 0} (answers : S → Ask → Arrival → S → Type 0) (is_pro
     polled = all;
     prompt = prompt;
     in_step = in_step;
-    keys = ?keys;
-    arrived = ?arrived;
-    waits = ?waits;
+    keys = λ place load at live. (
+        let loading = fellow polled_loads.loadings (loads_in component) in_step.paired place load at in
+        let step = in_step.each place load loading.0 at loading.1 live in
+        subst (λ (o : Option Code). (o ≡ None) ⊎ (o ≡ Some (key_of component new.held load))) (sym step.arrived) (arrived_or_not answers component old (progress_at old loads) (progress_at new polled_loads) late before after ready.kept ready.fits all ready.in_step place load loading.0 at loading.1 live));
+    arrived = arrivals answers component old (progress_at old loads) (progress_at new polled_loads) late before after ready.kept ready.fits all;
+    waits = late_pending answers component old (progress_at old loads) (progress_at new polled_loads) late before after ready.kept ready.fits all;
   }

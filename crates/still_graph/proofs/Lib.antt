@@ -16,3 +16,4 @@ pub mod WentOver
 pub mod Finished
 pub mod HoldsLoad
 pub mod WorkedKept
+pub mod Finishes
