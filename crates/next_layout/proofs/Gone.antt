@@ -1,5 +1,5 @@
 -- A graph that goes over to the layout of its component in another held state.
-use Rattle.std.proofs.Common.{◌≡◌, ◌≢◌, ℕ, ◌+◌, ◌<◌, ◌≤◌, false, true, List, [], length, Option, None, Some, slice_get, refl, sym, ap, subst, ◌∙◌, arith}
+use Rattle.std.proofs.Common.{◌≡◌, ◌≢◌, ℕ, ◌<◌, ◌≤◌, false, true, List, [], length, Option, None, Some, slice_get, refl, sym, ap, subst, ◌∙◌, arith}
 use Rattle.std.specs.Prelude.{IsSomeAnd}
 use Rattle.std.specs.Option.{option_map_or}
 use Rattle.std.proofs.lemmas.List.{length-map}
@@ -8,7 +8,6 @@ use Rattle.values.specs.declared.code.Code.TheVariants.{Empty}
 use Rattle.values.specs.declared.plan.Kind.TheVariants as kind
 use Rattle.values.specs.declared.plan.Plan.{Plan}
 use Rattle.values.specs.declared.plan.PlanNode.{PlanNode}
-use Rattle.values.specs.Packing.{unpacked}
 use Rattle.values.specs.PlanValues.{is_derived}
 use Rattle.component_items.specs.declared.component.Component.{Component}
 use Rattle.component_items.specs.Kept.{IsKept}
@@ -31,7 +30,7 @@ use Rattle.load_table.specs.Loads.{LoadOf, loads_in, is_live_load}
 use Rattle.load_table.proofs.Pending.{load_has_row, row_has_load}
 use Rattle.carried_rows.specs.Moved.{cause_moved, GoOver}
 use Rattle.carried_rows.specs.Named.{AreFresh}
-use Rattle.held_state.specs.State.{HeldState, IsOf}
+use Rattle.held_state.specs.State.{HeldState}
 use Rattle.phase_graph.specs.Graph.{GraphState, ticks_of}
 use Rattle.phase_graph.specs.Relaying.{GoesBetween}
 use Rattle.next_layout.specs.Next.{NextState, IsLaidOut, IsNext, LoadsStay, HasGone, EffectsStay, HasGoneOver}

@@ -1,11 +1,10 @@
 -- Held state that takes what the rows of its layout show.
-use Rattle.std.proofs.Common.{◌≡◌, ℕ, List, slice_get, Option, Some, refl, sym, ap, ◌∙◌}
-use Rattle.values.specs.declared.code.Code.{Code}
+use Rattle.std.proofs.Common.{◌≡◌, List, slice_get, refl, sym, ap, ◌∙◌}
 use Rattle.component_items.specs.declared.component.Component.{Component}
 use Rattle.sources.specs.Rows.{value_in}
 use Rattle.plain_evaluation.specs.Held.{Held}
 use Rattle.plain_evaluation.specs.Place.{Place}
-use Rattle.plain_evaluation.specs.Written.{state_of, loaded, Written, place_of, written}
+use Rattle.plain_evaluation.specs.Written.{state_of, written}
 use Rattle.plan_meaning.specs.Layout.{rows_of, places_of, plan_of}
 use Rattle.held_state.specs.State.{HeldState, IsOf, with_held}
 use Rattle.held_rows.specs.Shown.{held_shown}

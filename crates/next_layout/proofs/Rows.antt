@@ -1,8 +1,7 @@
 -- Rows by number, and their values.
-use Rattle.std.proofs.Common.{◌≡◌, ℕ, zero, suc, List, [], ◌∷◌, length, Option, Some, None, slice_get, refl, sym, ap, ◌∙◌, arith}
+use Rattle.std.proofs.Common.{◌≡◌, ℕ, zero, suc, List, [], ◌∷◌, length, Some, slice_get, refl, sym, ap, arith}
 use Rattle.std.specs.Prelude.{unwrap_or}
-use Rattle.std.specs.Option.{option_map, option_map_or}
-use Rattle.values.specs.declared.code.Code.{Code}
+use Rattle.std.specs.Option.{option_map}
 use Rattle.values.specs.declared.code.Code.TheVariants.{Empty}
 use Rattle.values.specs.Packing.{unpacked}
 use Rattle.values.proofs.PackingLemmas.{unpacked-packed}
