@@ -12,6 +12,7 @@ use Rattle.values.specs.PlanValues.{is_derived}
 use Rattle.component_items.specs.declared.component.Component.{Component}
 use Rattle.component_items.specs.Kept.{IsKept}
 use Rattle.sources.specs.declared.body.Cause.{Cause}
+use Rattle.sources.specs.declared.body.Cause.TheVariants as cause
 use Rattle.sources.specs.declared.opening.Opened as rows
 use Rattle.sources.specs.Rows.{value_in}
 use Rattle.plain_evaluation.specs.Fits.{RowsFit}
@@ -33,7 +34,7 @@ use Rattle.carried_rows.specs.Named.{AreFresh}
 use Rattle.held_state.specs.State.{HeldState}
 use Rattle.phase_graph.specs.Graph.{GraphState, ticks_of}
 use Rattle.phase_graph.specs.Relaying.{GoesBetween}
-use Rattle.next_layout.specs.Next.{NextState, IsLaidOut, IsNext, LoadsStay, HasGone, EffectsStay, HasGoneOver}
+use Rattle.next_layout.specs.Next.{NextState, IsLaidOut, IsNext, LoadsStay, HasGone, EffectsStay, RunsStay, HasGoneOver}
 use Rattle.next_layout.specs.Sources.{load_shown, code_said, codes_said, ArePut, SourcesAreSaid}
 use Rattle.next_layout.proofs.SourceCodes.{source_row, first_row, later_row, codes_few}
 use Rattle.next_layout.proofs.HeldLines.{SaysHeld, is_held}
@@ -59,6 +60,11 @@ derived_so state w (derived k expr) is = is
 had_cause : (number : ℕ → ℕ) (cause : Option Cause) → cause_moved number cause ≢ None → cause ≢ None
 had_cause number None did = λ e. did refl
 had_cause number (Some c) did = λ e. cc
+
+keeps_cause : (number : ℕ → ℕ) (cause : Option Cause) → cause ≢ None → cause_moved number cause ≢ None
+keeps_cause number None did = λ e. did refl
+keeps_cause number (Some cause.First) did = λ e. cc
+keeps_cause number (Some (cause.Changed source old new)) did = λ e. cc
 
 -- ---- the values of the sources of a layout
 
@@ -252,6 +258,19 @@ module _ (component : Component) (old : HeldState) (places : List Place) (graph 
               code = ap (λ (x : rows.Opened). x.code) as_before ∙ moved.code;
             }
 
+    runs_stay : RunsStay places next.places graph put
+    runs_stay row n node p before after at_old at_place at_node effect at_before at_after ran =
+        let new_node = fellow next.relaid.plan.nodes next.places (sym long_later) n p at_place in
+        let same_kind : new_node.0.kind ≡ node.kind = ap (λ (m : PlanNode). m.kind) (is_carried.node row n p node new_node.0 at_old at_place at_node new_node.1) in
+        let one = fellow relaid.rows put.rows (sym is_put.long) n after at_after in
+        let later = derived_later component held laid.kept fits_later (load_shown places graph) next.codes is_next.codes n new_node.0 (ap (λ (q : Plan). slice_get q.nodes n) (sym is_next.plan) ∙ new_node.1) (ap is_derived (same_kind ∙ effect)) in
+        let as_before : after ≡ record one.0 { colour = after.colour } = is_put.others n one.0 after later one.1 at_after in
+        let moved = went.2.kept row n p before one.0 at_old at_place at_before one.1 in (
+          λ e. keeps_cause (moved_row places next.places) before.body.cause ran (sym moved.cause ∙ sym (ap (λ (x : rows.Opened). x.body.cause) as_before) ∙ e),
+          ap (λ (x : rows.Opened). x.code) as_before ∙ moved.code,
+          ap (λ (x : rows.Opened). x.version) as_before ∙ moved.version,
+        )
+
     pub gone_over : HasGoneOver component old next.state places next.places graph put
     gone_over = record {
       laid = record { kept = laid.kept; fits = is_next.fits; named = is_next.named; plan = plan_later };
@@ -264,6 +283,7 @@ module _ (component : Component) (old : HeldState) (places : List Place) (graph 
       sources = put_said component held laid.kept fits_later (load_shown places graph) next.codes is_next.codes relaid put is_put put_long;
       loads = loads_stay;
       effects = effects_stay;
+      runs = runs_stay;
     }
       where
         drawn_few : put.drawn ≤ 4096

@@ -105,6 +105,11 @@ abbrev pub EffectsStay : List Place → List Place → GraphState → GraphState
 EffectsStay places later old new = (n : ℕ) (node : PlanNode) (row : rows.Opened) (p : Place) → slice_get new.plan.nodes n ≡ Some node → slice_get new.rows n ≡ Some row → slice_get later n ≡ Some p
     → node.kind ≡ kind.Effect → row.body.cause ≢ None → HasGone places old p row
 
+-- and each one that had run, and whose place stays, has run, and has its value under the version that it had
+abbrev pub RunsStay : List Place → List Place → GraphState → GraphState → Type 0
+RunsStay places later old new = (row n : ℕ) (node : PlanNode) (p : Place) (before after : rows.Opened) → slice_get places row ≡ Some p → slice_get later n ≡ Some p → slice_get old.plan.nodes row ≡ Some node → node.kind ≡ kind.Effect
+    → slice_get old.rows row ≡ Some before → slice_get new.rows n ≡ Some after → before.body.cause ≢ None → (after.body.cause ≢ None) × (after.code ≡ before.code) × (after.version ≡ before.version)
+
 -- the graph went over from the layout of the component in held state of before to the one in this held state
 pub record HasGoneOver (component : Component) (before state : HeldState) (places later : List Place) (old new : GraphState) : Type 0 where
   pub laid : IsLaidOut component state later new
@@ -117,3 +122,4 @@ pub record HasGoneOver (component : Component) (before state : HeldState) (place
   pub sources : SourcesAreSaid component (state_of state.held) new.rows
   pub loads : LoadsStay component (state_of before.held) (state_of state.held) old new
   pub effects : EffectsStay places later old new
+  pub runs : RunsStay places later old new
