@@ -1,12 +1,13 @@
 -- The graph over the rows of a plan, as contracts see it.
-use Rattle.std.specs.Prelude.{◌≡◌, ℕ, ◌+◌, ◌-◌, ◌<◌, Bool, true, Some, Result, Ok, Err, List, [], ◌∷◌, ◌++◌, slice_get, slice_set, unwrap_or}
+use Rattle.std.specs.Prelude.{◌≡◌, ℕ, ◌+◌, ◌-◌, ◌<◌, ◌⊎◌, Bool, true, Some, Result, Ok, Err, List, [], ◌∷◌, ◌++◌, slice_get, slice_set, unwrap_or}
 use Rattle.values.specs.declared.plan.Noted.{Noted}
 use Rattle.values.specs.declared.plan.Plan.{Plan}
 use Rattle.values.specs.declared.plan.Stop.{Stop}
-use Rattle.values.specs.declared.plan.Kind.TheVariants.{Memo}
+use Rattle.values.specs.declared.plan.Kind.TheVariants.{Memo, Effect}
 use Rattle.values.specs.declared.plan.PlanNode.{PlanNode}
 use Rattle.script_items.specs.Script.{numbered}
 use Rattle.store_fields.specs.declared.edit.Edit.{Edit}
+use Rattle.sources.specs.declared.colour.Colour.TheVariants.{Dirty}
 use Rattle.sources.specs.declared.opening.Opened.{Opened}
 use Rattle.sources.specs.Colours.{is_clean}
 
@@ -47,3 +48,7 @@ edits_with lists pass asked (Err why) = lists
 -- every memo below this row is up to date
 abbrev pub AreSettledTo : List PlanNode → List Opened → ℕ → Type 0
 AreSettledTo nodes rows bound = (n : ℕ) (node : PlanNode) (row : Opened) → n < bound → slice_get nodes n ≡ Some node → slice_get rows n ≡ Some row → node.kind ≡ Memo → is_clean row.colour ≡ true
+
+-- each effect whose owner is live is clean, or dirty where it was left
+abbrev pub AreRunOrLeft : List PlanNode → List Bool → List Opened → Type 0
+AreRunOrLeft nodes live rows = (n : ℕ) (node : PlanNode) (row : Opened) → slice_get nodes n ≡ Some node → node.kind ≡ Effect → slice_get live node.owner ≡ Some true → slice_get rows n ≡ Some row → (is_clean row.colour ≡ true) ⊎ (row.colour ≡ Dirty)
