@@ -21,7 +21,7 @@ use Rattle.store_fields.specs.declared.row.Row.{Row}
 use Rattle.plain_evaluation.specs.Fits.{RowsFit}
 use Rattle.plain_evaluation.specs.Held.{Holding, arrived, Held, holding_of, value_in as held_value, value_held, arrived_held, first_held}
 use Rattle.plain_evaluation.specs.Keyed.{is_keyed}
-use Rattle.plain_evaluation.specs.Place.{Place}
+use Rattle.plain_evaluation.specs.Place.{Place, outside}
 use Rattle.plain_evaluation.specs.Written.{State, state_of, given, loaded, Says, kind_said, Written, place_of, written}
 use Rattle.plain_evaluation.proofs.Begins.{first_begins}
 use Rattle.plain_evaluation.proofs.Fitting.{rows_of_held}
@@ -43,7 +43,7 @@ use Rattle.still_graph.proofs.LoadRows.{line_of_load}
 use Rattle.still_graph.proofs.Owners.{live_at_first}
 
 -- where no store has rows, what is given is a signal's
-given_signal : (state : State) → ((id : ℕ) → state.rows id ≡ []) → (w : Written) (k : Kind) (code : Code) → GivenSo state w.id w.scene.row (given k code) → (k ≡ kind.Signal) × (code ≡ state.value (place_of w))
+given_signal : (state : State) → ((id : ℕ) → state.rows id ≡ []) → (w : Written) (k : Kind) (code : Code) → GivenSo state w.id w.scene.row (given k code) → (k ≡ kind.Signal) × (code ≡ state.value (outside w.id))
 given_signal state empty w kind.Signal code is = (refl, is.1)
 given_signal state empty w kind.Field code is = absurd (no_field (state.rows is.store) (empty is.store) is.row_at)
   where

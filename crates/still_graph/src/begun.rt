@@ -52,6 +52,7 @@ impl Begun {
         let codes = codes_of(alloc, &held, &names)?;
         let live = vec![in alloc; true; plan.owners.len()]?;
         let graph = Graph::new(alloc, plan, live, codes.as_slice())?;
+        let loads = Loads::new(alloc, component)?;
         Ok(Begun {
             owners: IdOwners::new(alloc, component)?,
             held,
@@ -59,7 +60,7 @@ impl Begun {
             graph,
             journal: Journal::new(alloc),
             verdicts: Vec::new(alloc),
-            loads: Loads::new(alloc, component)?,
+            loads,
         })
     }
 }
