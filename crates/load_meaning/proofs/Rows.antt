@@ -25,11 +25,11 @@ use Rattle.load_table.specs.Loads.{LoadOf, item_loads, loads_in, is_live_load}
 use Rattle.load_meaning.specs.declared.late.Late.TheVariants.{Failed}
 use Rattle.load_meaning.specs.Polls.{Progress, key_of, first_loadings, IsPolled, ArePolled, none, polled, AllPolled, promptly_one, all_promptly}
 
-abbrev at_top : ℕ → Told → ℕ × Origin
+abbrev pub at_top : ℕ → Told → ℕ × Origin
 at_top id told = (id, record { around = top_around; told = told })
 
 -- one load that is live, polled by a prompt loader
-one_promptly : (component : Component) (held : Held) (loadings : List Loading) (load : LoadOf) (old : Loading) (key : Code) → is_live_load component (state_of held) load ≡ true → key_of component held load ≡ key → promptly_one component (record { held = held; loadings = loadings }) (load, old) ≡ record { held = with_arrived held load.id (after_poll old key (prompt_poll old key load.after)).arrived; loadings = loadings ++ after_poll old key (prompt_poll old key load.after) ∷ [] }
+pub one_promptly : (component : Component) (held : Held) (loadings : List Loading) (load : LoadOf) (old : Loading) (key : Code) → is_live_load component (state_of held) load ≡ true → key_of component held load ≡ key → promptly_one component (record { held = held; loadings = loadings }) (load, old) ≡ record { held = with_arrived held load.id (after_poll old key (prompt_poll old key load.after)).arrived; loadings = loadings ++ after_poll old key (prompt_poll old key load.after) ∷ [] }
 one_promptly component held loadings load old key lives is =
     ap (λ (b : Bool). if b then polled_with (key_of component held load) else record { held = held; loadings = loadings ++ old ∷ [] }) lives
     ∙ ap polled_with is

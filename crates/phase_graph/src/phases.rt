@@ -131,7 +131,7 @@ impl Table {
         ensures rebased { self.new ≡ rebased self.old }
     {
         self.full = None;
-        self.clock.base += u64::from(self.clock.drawn);
-        self.clock.drawn = 0;
+        let drawn = mem::replace(&mut self.clock.drawn, 0);
+        self.clock.base += u64::from(drawn);
     }
 }
