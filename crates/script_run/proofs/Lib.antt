@@ -1,13 +1,4 @@
-pub mod Lists
-pub mod Named
-pub mod Owned
-pub mod Targets
-pub mod Noted
-pub mod Steps
-pub mod EditRoom
-pub mod Areas
 pub mod ToldAnswers
-pub mod Asked
 pub mod Settlings
 pub mod Made
 pub mod Runs

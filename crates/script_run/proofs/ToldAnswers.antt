@@ -18,10 +18,10 @@ use Rattle.run_meaning.specs.Phase.{Phase}
 use Rattle.run_meaning.specs.Run.{answers_of_lane, answers_of_lanes}
 use Rattle.run_weave.specs.Lanes.{lane_of, told_reply, told_lane, verdict_of, told}
 use Rattle.phase_edits.specs.Told.{edit_numbers, AreTold}
-use Rattle.script_run.specs.Lanes.{edits_told}
-use Rattle.script_run.specs.Today.{LanesRun, most_ops}
-use Rattle.script_run.proofs.Lists.{count_cons}
-use Rattle.script_run.proofs.Noted.{same_edits_of}
+use Rattle.lane_run.specs.Lanes.{edits_told}
+use Rattle.lane_run.specs.Today.{LanesRun, most_ops}
+use Rattle.lane_run.proofs.Lists.{count_cons}
+use Rattle.lane_run.proofs.Noted.{same_edits_of}
 use Rattle.script_run.specs.Told.{is_accepted, answer_told, first_verdicts, verdict_at, answers_told, accepted_among}
 
 -- ---- answer by answer

@@ -1,5 +1,5 @@
 pub mod Today
-pub mod Lanes
+pub mod Phases
 pub mod Told
 pub mod Settlings
 pub mod Ran

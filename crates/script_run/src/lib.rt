@@ -1,9 +1,7 @@
 //! The run of a script over the graph of its component.
 #![tactic(auto)]
 
-mod lane;
 mod phase;
-mod room;
 mod run;
 mod settling;
 mod telling;

@@ -12,49 +12,27 @@ ghost use Rattle.run_meaning.specs.Phase.{Phase};
 ghost use Rattle.run_meaning.specs.Report.{answer_lines, journal_lines};
 ghost use Rattle.run_meaning.specs.Run.{answers_of_lanes};
 ghost use Rattle.phase_graph.specs.Graph.{ticks_of};
-ghost use Rattle.script_run.specs.Lanes.{IsOpenOver, IsFresh, HaveDone, IsMade, first_ops, lanes_at};
+ghost use Rattle.lane_run.specs.Lanes.{lanes_at};
+ghost use Rattle.lane_run.specs.Today.{LanesRun};
+ghost use Rattle.script_run.specs.Phases.{IsMade};
 ghost use Rattle.still_graph.specs.Loads.{has_load};
 ghost use Rattle.script_run.specs.Ran.{GoesOn};
 ghost use Rattle.still_graph.specs.Still.{opened_in, IsSettledAfter, IsOpenAt, HasEnded};
-ghost use Rattle.script_run.specs.Today.{LanesRun, RunsToday};
+ghost use Rattle.script_run.specs.Today.{RunsToday};
 ghost use Rattle.still_graph.specs.declared.still.Stage.TheVariants as stage;
 
-use crate::lane::run_lane;
-use crate::room::edit_room;
 use crate::run::Ran;
 use crate::settling::settle_rounds;
 use crate::telling::tell_edits;
+use lane_run::{edit_room, run_lanes};
 use outside::{Gate, Loader};
 use report_text::put_phase;
 use run_items::{Answer, Answers};
-use run_weave::laws::{calls_make_phases, lanes_make_all_calls, targets_of_components_fit};
+use run_weave::laws::{calls_make_phases, targets_of_components_fit};
 use script_items::Script;
 use std::alloc::Global;
 use still_graph::Still;
 use values::NoMemory;
-
-/// Makes the operations of all lanes of the phase, of which there is one at the most.
-fn run_lanes<G: Gate>(
-    still: &mut Still,
-    alloc: Global,
-    script: &Script,
-    phase: u32,
-    gate: &G,
-    answers: &mut Answers,
-) -> Result<(), NoMemory>
-    requires open { IsOpenOver still.old }
-    requires fresh { IsFresh still.old (first_ops script.now phase) }
-    requires named { All (All (NamesMembers (members_of still.old.component.items))) (lanes_at script.now phase) }
-    requires today { LanesRun (lanes_at script.now phase) }
-    ensures { OnOk result (HaveDone phase (lanes_at script.now phase) still.old still.new answers.old answers.new) }
-{
-    lanes_make_all_calls();
-    let lanes = script.lanes(phase).unwrap_or(0);
-    if lanes == 0 {
-        return Ok(());
-    }
-    run_lane(still, alloc, script, phase, gate, answers)
-}
 
 /// Opens the phase, makes its operations and ends it. Edits are not told yet what comes of them. After want of memory some
 /// of the operations may be made.

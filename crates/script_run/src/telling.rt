@@ -3,7 +3,7 @@ ghost use Rattle.std.specs.Prelude.{◌≡◌, ◌≤◌, ◌<◌, ◌+◌, ◌^
 ghost use Rattle.run_items.specs.declared.answer.Answer.{Answer as AnswerValue};
 ghost use Rattle.run_meaning.specs.Lane as meaning;
 ghost use Rattle.run_weave.specs.Lanes as weave;
-ghost use Rattle.script_run.specs.Today.{most_ops};
+ghost use Rattle.lane_run.specs.Today.{most_ops};
 ghost use Rattle.script_run.specs.Told.{is_accepted, first_verdicts, verdict_at, answer_told, answers_told};
 
 use run_items::{Answer, Answers, Reply};

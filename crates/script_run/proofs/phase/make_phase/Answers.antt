@@ -1,14 +1,10 @@
 use Rattle.std.proofs.Common.{ap, ◌∙◌}
 use Rattle.plain_evaluation.proofs.Fitting.{rows_of_held}
 use Rattle.run_meaning.specs.Opened.{opened_of}
-use Rattle.script_run.specs.Lanes.{lanes_at}
+use Rattle.lane_run.specs.Lanes.{lanes_at}
 use Rattle.still_graph.specs.Still.{StillState}
-use Rattle.script_run.proofs.Asked.{first_run}
 use Rattle.script_run.proofs.Made.{phase_made}
 use Rattle.script_run.proofs.phase.make_phase.Goals as goal
-
-pub edit_room-requires : goal.edit_room-requires
-edit_room-requires g c = first_run c.args.script.now c.args.phase c.requires.today
 
 pub run_lanes-requires-clause-fresh : goal.run_lanes-requires-clause-fresh
 run_lanes-requires-clause-fresh g c κs within = record {

@@ -2,8 +2,8 @@ use Rattle.std.proofs.Common.{◌≤◌, List, length, refl, subst, arith}
 use Rattle.std.specs.List.{All}
 use Rattle.std.proofs.lemmas.List.{take_all}
 use Rattle.script_items.specs.declared.operation.ScriptOp.{ScriptOp}
-use Rattle.script_run.specs.Today.{LanesRun}
-use Rattle.script_run.proofs.Asked.{one_more_phase}
+use Rattle.lane_run.specs.Today.{LanesRun}
+use Rattle.lane_run.proofs.Asked.{one_more_phase}
 use Rattle.script_run.proofs.today.script_runs.Goals as goal
 
 pub loop-before-preserved : goal.loop-before-preserved

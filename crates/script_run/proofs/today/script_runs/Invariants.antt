@@ -1,6 +1,6 @@
 use Rattle.std.proofs.Common.{take}
 use Rattle.std.specs.List.{All}
-use Rattle.script_run.specs.Today.{LanesRun}
+use Rattle.lane_run.specs.Today.{LanesRun}
 use Rattle.script_run.proofs.today.script_runs.Given as goal
 
 abbrev pub invariant-loop-before : goal.invariant-loop-before

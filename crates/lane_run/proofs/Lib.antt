@@ -1,0 +1,9 @@
+pub mod Lists
+pub mod Named
+pub mod Owned
+pub mod Targets
+pub mod Noted
+pub mod Steps
+pub mod EditRoom
+pub mod Areas
+pub mod Asked

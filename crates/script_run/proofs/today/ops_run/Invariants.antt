@@ -1,6 +1,0 @@
-use Rattle.std.proofs.Common.{◌≤◌, length}
-use Rattle.script_run.specs.Lanes.{first_ops}
-use Rattle.script_run.proofs.today.ops_run.Given as goal
-
-abbrev pub invariant-loop-before : goal.invariant-loop-before
-invariant-loop-before l = l.before ≤ length (first_ops l.script l.phase)
