@@ -10,5 +10,6 @@ mod run;
 pub use finish::{Finish, Outcome};
 pub use run::page;
 
+
 #[cfg(test)]
 mod tests;
