@@ -183,7 +183,7 @@ pub run_of_read : (words : List (List ℕ)) (reading : Reading) (polling : Polli
     → StandFor words settings → GaveAll reading bytes → length bytes ≤ MOST_INPUT_BYTES → IsReadAs bytes component script → RunsToday script → IsRanTo component script settings.answers settings.rounds polling.counts ran
     → OnTrue polling.is_prompt (enough_rounds component ≤ settings.rounds → ran.pending ≡ [])
     → ((input : Input) (settings : Settings) (polling : Polling) → IsRanTo (component_of input) input.script settings.answers settings.rounds polling.counts ran
-      → OnTrue polling.is_prompt (enough_rounds (component_of input) ≤ settings.rounds → ran.pending ≡ []) → IsRunDue input settings polling outcome account text)
+    → OnTrue polling.is_prompt (enough_rounds (component_of input) ≤ settings.rounds → ran.pending ≡ []) → IsRunDue input settings polling outcome account text)
     → IsDue words reading polling outcome account text
 unfolding requested
 run_of_read words reading polling settings bytes component script ran outcome account text stand gave few read runs to all ended =

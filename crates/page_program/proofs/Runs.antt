@@ -82,7 +82,7 @@ one_journal a b e = cc
 was_so : (words : List (List ℕ)) (reading : Reading) (polling : Polling) (request : Request words reading) (account : Account) (journal : List JournalPhase) → WasRun request.input request.settings.rounds polling.counts account → account.journal ≡ Some journal → Ran words reading polling account journal
 was_so words reading polling request account journal was is =
     let found = subst (λ j. (run : IsRun (component_of request.input) request.input.script j account.answers) × RefusedAsOwed request.input request.settings.rounds polling.counts j account.answers run)
-        (one_journal was.journal journal (sym was.journal_is ∙ is)) (was.run, was.refused) in
+    (one_journal was.journal journal (sym was.journal_is ∙ is)) (was.run, was.refused) in
     (request, found.0, found.1)
 
 none_run : (account : Account) → account ≡ nothing_run → account.journal ≡ None
@@ -272,12 +272,12 @@ enough_written : (words : List (List ℕ)) (held left : Option (List ℕ)) (faul
 enough_written words None left faults after counts outcome account A ended settings stand = tt
 enough_written words (Some bytes) left faults after counts outcome account A ended settings stand = λ few input means built enough.
     then_written outcome (input_written words (Some bytes) left faults after (promptly true counts) outcome account A ended (settings, stand) few input means built)
-      (never_late words bytes left faults after counts outcome account A ended settings stand input means enough)
+    (never_late words bytes left faults after counts outcome account A ended settings stand input means enough)
 
 pub promptly_written : (words : List (List ℕ)) (held left : Option (List ℕ)) (faults after : ℕ) (prompt : Bool) (counts : LoaderCounts) (outcome : Outcome) (account : Account) (A : List ℕ → Type 0)
     → Ended words (reading_of held left faults after) (record { is_prompt = prompt; counts = counts }) outcome account A
     → OnTrue prompt ((settings : Settings) → StandFor words settings
-      → IfSome held (λ bytes. length bytes ≤ MOST_INPUT_BYTES → (input : Input) → Means bytes input → IsBuilt input → enough_rounds (component_of input) ≤ settings.rounds → IsReadOr Page outcome))
+    → IfSome held (λ bytes. length bytes ≤ MOST_INPUT_BYTES → (input : Input) → Means bytes input → IsBuilt input → enough_rounds (component_of input) ≤ settings.rounds → IsReadOr Page outcome))
 unfolding promptly
 promptly_written words held left faults after false counts outcome account A ended = tt
 promptly_written words held left faults after true counts outcome account A ended = enough_written words held left faults after counts outcome account A ended

@@ -114,7 +114,7 @@ nothing_run = record { journal = None; answers = [] }
 abbrev pub RefusedAsOwed : (input : Input) → ℕ → LoaderCounts → (journal : List JournalPhase) → (answers : List Answer) → IsRun (component_of input) input.script journal answers → Type 0
 RefusedAsOwed input rounds counts journal answers run =
     RoseByTogether (refusals_of (component_of input) rounds (states_of (held_arrived run.keys (first_held (component_of input))) run.steps))
-      counts.faults counts.faults_after counts.not_yets counts.not_yets_after
+    counts.faults counts.faults_after counts.not_yets counts.not_yets_after
 
 -- the input was run to its last settling, each of up to so many rounds, with this account
 pub record WasRun (input : Input) (rounds : ℕ) (counts : LoaderCounts) (account : Account) : Type 0 where

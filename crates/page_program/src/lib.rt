@@ -10,6 +10,7 @@ mod run;
 pub use finish::{Finish, Outcome};
 pub use run::page;
 
-
+#[cfg(test)]
+mod load_tests;
 #[cfg(test)]
 mod tests;
