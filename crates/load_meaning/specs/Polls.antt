@@ -1,9 +1,10 @@
 -- Polls of the loads of a component, one after another.
-use Rattle.std.specs.Prelude.{◌≡◌, ◌↔◌, ℕ, zero, suc, if◌then◌else◌, Bool, true, false, List, [], ◌∷◌, ◌++◌, map, length, slice_get, fold, Option, Some, None, sum}
+use Rattle.std.specs.Prelude.{◌≡◌, ◌↔◌, ℕ, zero, suc, if◌then◌else◌, true, false, List, [], ◌∷◌, ◌++◌, map, length, slice_get, fold, take, Some, sum}
 use Rattle.std.specs.List.{zip}
 use Rattle.values.specs.declared.code.Code.{Code}
 use Rattle.component_items.specs.declared.component.Component.{Component}
 use Rattle.outside.specs.Asks.{Ask}
+use Rattle.outside.specs.Prompt.{prompt_arrival}
 use Rattle.outside.specs.declared.traits.Arrival.{Arrival}
 use Rattle.async_derived.specs.declared.loading.Loading.{Loading}
 use Rattle.async_derived.specs.declared.loading.Polled.{Polled}
@@ -82,18 +83,27 @@ pub record AreInStep (component : Component) (progress : Progress) : Type 0 wher
 
 -- ---- what a prompt loader makes of them
 
+-- a loader that goes by the attempts alone answers an ask
+abbrev pub AnswersPromptly : Unit {0} → Ask → Arrival → Unit {0} → Type 0
+AnswersPromptly before ask answer after = answer ≡ prompt_arrival ask.after ask.asked
+
 abbrev pub promptly_one : Component → Progress → LoadOf × Loading → Progress
 promptly_one component now pair =
     if is_live_load component (state_of now.held) pair.0
     then (let key : Code = key_of component now.held pair.0 in
-          let new : Loading = after_poll pair.1 key (prompt_poll pair.1 key pair.0.after) in
-          record { held = with_arrived now.held pair.0.id new.arrived; loadings = now.loadings ++ new ∷ [] })
+    let new : Loading = after_poll pair.1 key (prompt_poll pair.1 key pair.0.after) in
+    record { held = with_arrived now.held pair.0.id new.arrived; loadings = now.loadings ++ new ∷ [] })
     else record { held = now.held; loadings = now.loadings ++ pair.1 ∷ [] }
 
 -- all loads of the component, polled once
 abbrev pub all_promptly : Component → Progress → Progress
 all_promptly component progress =
     fold (promptly_one component) (record { held = progress.held; loadings = [] }) (zip (loads_in component) progress.loadings)
+
+-- the first of them, so many
+abbrev pub some_promptly : Component → Progress → ℕ → Progress
+some_promptly component progress count =
+    fold (promptly_one component) (record { held = progress.held; loadings = [] }) (take count (zip (loads_in component) progress.loadings))
 
 -- polled as often as this
 unfoldable pub rounds_promptly : ℕ → Component → Progress → Progress

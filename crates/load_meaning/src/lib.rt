@@ -2,5 +2,7 @@
 #![tactic(auto)]
 
 mod late;
+pub mod laws;
+pub mod worked;
 
 pub use late::Late;

@@ -45,7 +45,7 @@ split_at (x ∷ ws) j w is = at (is_computed x.says) refl j is (split_at ws)
         (x ∷ one.0, one.1, (λ i. x ∷ one.2 i), ap (λ (b : Bool). length (if b then x ∷ computed_of one.0 else computed_of one.0)) d ∙ one.3)
 
 -- a place of a first part of the text has its row among the sources, or among what is derived there
-row_before : (ws before rest : List Written) (p : Place) (r : ℕ) → ws ≡ before ++ rest → has_place before p ≡ true → row_of (places_of ws) p ≡ Some r → r < length (sources_of ws) + length (computed_of before)
+pub row_before : (ws before rest : List Written) (p : Place) (r : ℕ) → ws ≡ before ++ rest → has_place before p ≡ true → row_of (places_of ws) p ≡ Some r → r < length (sources_of ws) + length (computed_of before)
 row_before ws before rest p r parted has row =
     subst (λ n. r < n) (length-append (sources_of ws) (computed_of before)) (position_within first (computed_of rest) p r has_first (subst (λ rows. row_of (map place_of rows) p ≡ Some r) rows_parted row))
   where
@@ -81,7 +81,7 @@ line_before (x ∷ before) p has = at (same_place (place_of x) p) refl has (line
     at false same has later = let one = later has in (x ∷ one.0, one.1, one.2, (λ i. x ∷ one.3 i), one.4)
 
 -- what a line reads is before it
-read_before : (keyed : ℕ → Bool) (ws before after : List Written) (w : Written) → IsSound keyed ws → ws ≡ before ++ w ∷ after → (id : ℕ) → Contains (ids_read w.says w.id) id → (p : Place) → stands_for keyed w.scene id ≡ place p → has_place before p ≡ true
+pub read_before : (keyed : ℕ → Bool) (ws before after : List Written) (w : Written) → IsSound keyed ws → ws ≡ before ++ w ∷ after → (id : ℕ) → Contains (ids_read w.says w.id) id → (p : Place) → stands_for keyed w.scene id ≡ place p → has_place before p ≡ true
 read_before keyed ws before after w sound parted id reads p stand =
     let come = names_at keyed [] before after w (subst (λ xs. names_come_before keyed [] xs ≡ true) parted sound.back) in
     let here = each_of (λ n. comes_before before (stands_for keyed w.scene n)) (ids_read w.says w.id) id come reads in
@@ -92,7 +92,7 @@ key_stands : (keyed : Bool) (row : Option RowAround) (id : ℕ) → row ≡ None
 key_stands keyed row id none = ap (λ (r : Option RowAround). stands_in keyed r id) none
 
 -- what has a load before it has its key before it
-key_before : (component : Component) (state : State) → IsKept component → RowsFit component state → (before rest : List Written) → written_in component state ≡ before ++ rest → (p : Place) → kind_of_id component p.id ≡ Some kind.Load → has_place before p ≡ true → has_place before (outside (suc p.id)) ≡ true
+pub key_before : (component : Component) (state : State) → IsKept component → RowsFit component state → (before rest : List Written) → written_in component state ≡ before ++ rest → (p : Place) → kind_of_id component p.id ≡ Some kind.Load → has_place before p ≡ true → has_place before (outside (suc p.id)) ≡ true
 key_before component state kept fits before rest parted p is_load has = subst (λ n. has_place before (outside (suc n)) ≡ true) id (ap (λ xs. has_place xs q) line.3 ∙ has_place-append first (w ∷ later) q ∙ ap (λ b. b || has_place (w ∷ later) q) key_first)
   where
     ws : List Written

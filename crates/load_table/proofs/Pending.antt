@@ -49,7 +49,7 @@ pending_is component state kept nested =
 
 -- ---- rows
 
-among_filter : (f : Written → Bool) (ws : List Written) (w : Written) → Among (filter f ws) w → Among ws w
+pub among_filter : (f : Written → Bool) (ws : List Written) (w : Written) → Among (filter f ws) w → Among ws w
 among_filter f [] w among = absurd among
 among_filter f (x ∷ ws) w among = at (f x) among (among_filter f ws w)
   where

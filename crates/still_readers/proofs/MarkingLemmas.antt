@@ -16,7 +16,7 @@ use Rattle.still_readers.specs.declared.marking.Marking.{Marking}
 use Rattle.still_readers.specs.declared.readers.Reader.{Reader}
 use Rattle.still_readers.specs.declared.readers.Readers.{Readers}
 use Rattle.still_readers.specs.Readers.{HasReadBelow, HasRead, IsLast, bound_of, IsReadersOf, IsEnrolled}
-use Rattle.still_readers.specs.Marking.{darkened, IsDarker, IsDarkened, Reached, written_row, IsSource, In, IsOwed, out_count, IsSpreadingRow, IsSpreading, IsReaching, marking_left, IsSpread}
+use Rattle.still_readers.specs.Marking.{darkened, IsDarker, IsDarkened, Reached, IsMet, LeavesOthers, written_row, IsSource, In, AreMet, IsOwed, out_count, IsSpreadingRow, IsSpreading, IsReaching, marking_left, IsSpread}
 use Rattle.still_readers.proofs.Lists.{within_at, at_within, set_here, set_other, one_at, which, either, length_more, replicate_at, not_both}
 
 -- a row as it was before, but for its colour
@@ -63,7 +63,7 @@ darkened_one rows m y0 direct here = record {
         subst (λ (q : Opened). IsDarker q new) (sym s) (subst (λ (q : Opened). IsDarker y0 q) (sym f) record { same = refl; unclean = (λ _. darkened_unclean direct y0.colour); dirty = darkened_dirty direct y0.colour })
     by i old new o (inr (n', at)) = subst (λ (q : Opened). IsDarker old q) (one_at old new o at) record { same = refl; unclean = (λ v. v); dirty = (λ d. d) }
 
-recorded_darkened : (rows rows' : List Opened) (i : ℕ) (x : Read) → IsDarkened rows rows' → IsRecorded rows i x → IsRecorded rows' i x
+pub recorded_darkened : (rows rows' : List Opened) (i : ℕ) (x : Read) → IsDarkened rows rows' → IsRecorded rows i x → IsRecorded rows' i x
 recorded_darkened rows rows' i x re known = record {
   below = known.below;
   is_packed = known.is_packed;
@@ -434,3 +434,32 @@ last_low list row b (Some p) h = let l = h.0 in omega arith
 -- the readers of a row from the last one on
 pub spreading_last : (nodes : List PlanNode) (rows : List Opened) (readers : Readers) (marking : Marking) (signal now b : ℕ) (o : Option ℕ) → IsLast readers.list now b o → IsSpreading nodes rows readers marking signal now b → IsSpreading nodes rows readers marking signal now (bound_of o)
 spreading_last nodes rows readers marking signal now b o last is = narrow nodes rows readers marking signal now b (bound_of o) (λ i n s h. fewer_last readers now b o last i n s h) is
+
+-- ---- what is reached
+
+-- a reader of a row that is met is reached
+pub reached_reader : (readers : Readers) (signal now p : ℕ) (u : Reader) → slice_get readers.list p ≡ Some u → u.row ≡ now → u.enrolled ≡ true → IsMet readers signal now → Reached readers signal u.node
+reached_reader readers signal now p u at of_row enrolled (inl e) = Reached.direct u.node record { place = p; reader = u; at = at; below = at_within readers.list p u at; of_node = refl; of_row = of_row ∙ e; enrolled = enrolled }
+reached_reader readers signal now p u at of_row enrolled (inr r) = Reached.further now u.node r record { place = p; reader = u; at = at; below = at_within readers.list p u at; of_node = refl; of_row = of_row; enrolled = enrolled }
+
+-- one row that is reached is put among those that wait, and written
+pub met_more : (readers : Readers) (signal row : ℕ) (old new : Marking) → Reached readers signal row → IsReaching row old new → AreMet readers signal old.todo.list → AreMet readers signal new.todo.list
+met_more readers signal row old new reached r met i w = elim (r.from i w) [ inl e ↦ inr (rw e reached) | inr v ↦ met i v ]
+
+pub leaves_one : (readers : Readers) (signal row : ℕ) (rows : List Opened) (y : Opened) → Reached readers signal row → LeavesOthers readers signal rows (set rows row y)
+leaves_one readers signal row rows y reached i none = set_other rows row i y (λ e. none (rw e reached))
+
+-- those that wait, with one taken out
+pub met_taken : (readers : Readers) (signal now : ℕ) (old new : List ℕ) → old ≡ new ++ now ∷ [] → AreMet readers signal old → AreMet readers signal new × IsMet readers signal now
+met_taken readers signal now old new list met = (
+  (λ i w. met i (subst (λ (t : List ℕ). In i t) (sym list) (in_front i new now w))),
+  met now (subst (λ (t : List ℕ). In now t) (sym list) (in_last new now)),
+)
+
+-- the signal waits alone
+pub met_first : (readers : Readers) (signal : ℕ) (todo : List ℕ) → todo ≡ signal ∷ [] → AreMet readers signal todo
+met_first readers signal todo list i w = by (subst (λ (t : List ℕ). In i t) list w)
+  where
+    by : In i (signal ∷ []) → IsMet readers signal i
+    by (inl e) = inl e
+    by (inr h) = absurd h

@@ -38,6 +38,14 @@ pub data Reached (readers : Readers) (signal : ℕ) : ℕ → Type 0 where
   direct : (m : ℕ) → HasRead readers m signal → Reached readers signal m
   further : (n m : ℕ) → Reached readers signal n → HasRead readers m n → Reached readers signal m
 
+-- the signal, or a row that is reached from it
+abbrev pub IsMet : Readers → ℕ → ℕ → Type 0
+IsMet readers signal i = (i ≡ signal) ⊎ Reached readers signal i
+
+-- rows that are not reached stay as they were
+abbrev pub LeavesOthers : Readers → ℕ → List Opened → List Opened → Type 0
+LeavesOthers readers signal rows rows' = (i : ℕ) → (Reached readers signal i → ⊥) → slice_get rows' i ≡ slice_get rows i
+
 -- a row with a new value and version
 abbrev pub written_row : Opened → ℕ → ℕ → Opened
 written_row row code version = record row { code = code; version = version }
@@ -56,6 +64,10 @@ pub record IsMarkingOf (rows : ℕ) (marking : Marking) : Type 0 where
 abbrev pub In : ℕ → List ℕ → Type 0
 In x [] = ⊥
 In x (y ∷ ys) = (x ≡ y) ⊎ In x ys
+
+-- each of these is the signal or reached from it
+abbrev pub AreMet : Readers → ℕ → List ℕ → Type 0
+AreMet readers signal todo = (i : ℕ) → In i todo → IsMet readers signal i
 
 -- the source waits to be gone through, or is gone through and the reader is not reached yet
 abbrev pub IsOwed : Readers → List ℕ → ℕ → ℕ → ℕ → ℕ → Type 0

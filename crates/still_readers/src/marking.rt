@@ -9,7 +9,7 @@ ghost use Rattle.sources.specs.Colours.{is_clean};
 ghost use Rattle.sources.specs.Rows.{IsGood};
 ghost use Rattle.still_readers.specs.declared.readers.Reader.{Reader as ReaderValue};
 ghost use Rattle.still_readers.specs.Readers.{HasRead, IsReadersOf, IsEnrolled, IsLast, bound_of};
-ghost use Rattle.still_readers.specs.Marking.{darkened, IsDarkened, Reached, written_row, IsSource, IsMarkingOf, In, out_count, marking_left, IsReaching, IsSpreading, IsSpread};
+ghost use Rattle.still_readers.specs.Marking.{darkened, IsDarkened, Reached, IsMet, LeavesOthers, written_row, IsSource, IsMarkingOf, In, AreMet, out_count, marking_left, IsReaching, IsSpreading, IsSpread};
 
 use crate::readers::{Reader, Readers};
 use sources::{BitRow, Colour, Opened};
@@ -95,6 +95,7 @@ pub fn write_row(
         IsDarkened (slice_set rows.old signal (written_row row (packed code) version)) rows.new }
     ensures direct { (m : ℕ) (row : OpenedValue) → HasRead readers.now m signal → slice_get rows.new m ≡ Some row → row.colour ≡ Colour.Dirty }
     ensures further { (m : ℕ) (row : OpenedValue) → Reached readers.now signal m → slice_get rows.new m ≡ Some row → is_clean row.colour ≡ false }
+    ensures others { (m : ℕ) → m ≢ signal → ¬ Reached readers.now signal m → slice_get rows.new m ≡ slice_get rows.old m }
 {
     write(rows, signal, code.pack(), version);
     marking.begin(signal);
@@ -119,8 +120,10 @@ fn spread(
     signal: u32,
 )
     requires spreading { IsSpreading nodes.now rows.old readers.now marking.old signal 0 0 }
+    requires met { AreMet readers.now signal marking.old.todo.list }
     ensures spreading { IsSpread nodes.now rows.new readers.now marking.new signal }
     ensures darkened { IsDarkened rows.old rows.new }
+    ensures others { LeavesOthers readers.now signal rows.old rows.new }
 {
     while let Some(now) = marking.todo.pop() {
         mark_readers(nodes, rows, readers, marking, signal, now);
@@ -138,8 +141,12 @@ fn mark_readers(
 )
     requires within { now < length nodes.now }
     requires spreading { IsSpreading nodes.now rows.old readers.now marking.old signal now (length readers.now.list) }
+    requires now { IsMet readers.now signal now }
+    requires met { AreMet readers.now signal marking.old.todo.list }
     ensures spreading { IsSpreading nodes.now rows.new readers.now marking.new signal now 0 }
+    ensures met { AreMet readers.now signal marking.new.todo.list }
     ensures darkened { IsDarkened rows.old rows.new }
+    ensures others { LeavesOthers readers.now signal rows.old rows.new }
     ensures less { marking_left marking.new ≤ marking_left marking.old }
 {
     let mut at = readers.last.as_slice()[now as usize];
@@ -161,9 +168,13 @@ fn mark(
     requires place { IsLast readers.now.list now (place + 1) (Some place) }
     requires within { place < length readers.now.list }
     requires spreading { IsSpreading nodes.now rows.old readers.now marking.old signal now (place + 1) }
+    requires now { IsMet readers.now signal now }
+    requires met { AreMet readers.now signal marking.old.todo.list }
     ensures last { IsLast readers.now.list now place result }
     ensures spreading { IsSpreading nodes.now rows.new readers.now marking.new signal now place }
+    ensures met { AreMet readers.now signal marking.new.todo.list }
     ensures darkened { IsDarkened rows.old rows.new }
+    ensures others { LeavesOthers readers.now signal rows.old rows.new }
     ensures less { marking_left marking.new ≤ marking_left marking.old }
 {
     let reader = readers.list.as_slice()[place];
@@ -188,8 +199,12 @@ fn darken(
     requires of_row { reader.row ≡ now }
     requires enrolled { reader.enrolled ≡ true }
     requires spreading { IsSpreading _nodes.now rows.old _readers.now marking.old signal now (_place + 1) }
+    requires now { IsMet _readers.now signal now }
+    requires met { AreMet _readers.now signal marking.old.todo.list }
     ensures spreading { IsSpreading _nodes.now rows.new _readers.now marking.new signal now _place }
+    ensures met { AreMet _readers.now signal marking.new.todo.list }
     ensures darkened { IsDarkened rows.old rows.new }
+    ensures others { LeavesOthers _readers.now signal rows.old rows.new }
     ensures less { marking_left marking.new ≤ marking_left marking.old }
 {
     marking.reach(reader.node);

@@ -4,7 +4,7 @@ use Rattle.std.proofs.lemmas.List.{length-map}
 use Rattle.std.proofs.Math.Nat.{mul-le-mul_left}
 use Rattle.values.specs.declared.code.Code.{Code}
 use Rattle.values.specs.declared.plan.Kind.{Kind}
-use Rattle.values.specs.declared.plan.Kind.TheVariants.{Memo, Effect}
+use Rattle.values.specs.declared.plan.Kind.TheVariants.{Signal, Field, Load, Memo, Effect}
 use Rattle.values.specs.declared.plan.PlanNode.{PlanNode}
 use Rattle.values.specs.Packing.{packed, unpacked}
 use Rattle.values.specs.Plan.{names_of, rows_in}
@@ -36,7 +36,7 @@ use Rattle.still_rows.specs.Frames.{AreLawful, IsConfirmed, IsGoing, IsFrameOf, 
 use Rattle.still_rows.specs.Moves.{room, begun_left, going_left, work_left, IsKept, IsRun, IsBelow}
 use Rattle.still_rows.specs.Since.{IsSeen, finished_row, kept_row, IsBodyAfter}
 use Rattle.still_rows.specs.Ends.{IsCauseOf, IsRunRecorded, IsFinished, IsRunnable}
-use Rattle.still_rows.specs.Works.{IsUnder, IsStack, unclean_count, width, work_of, top_work, total, IsStill, IsStepped, IsOnward}
+use Rattle.still_rows.specs.Works.{IsUnder, IsStack, unclean_count, width, work_of, top_work, total, IsStill, IsStepped, IsOnward, StayPast}
 use Rattle.still_rows.proofs.FramesLemmas.{reads_back, confirmed_values, named_memo}
 use Rattle.still_rows.proofs.Written.{IsWritten, written_good, frame_kept}
 use Rattle.still_rows.proofs.MovesLemmas.{frame_from, reads_fit_room, first_is_frame}
@@ -413,3 +413,63 @@ gone_less nodes rows rows' root f g fs fs' same less on = record {
 -- a frame that moved has less to do, counted at the row of the first
 pub moved_less : (rows : List Opened) (i : ℕ) (f g : Frame) (row : Opened) → slice_get rows i ≡ Some row → work_left row g < work_left row f → work_of (slice_get rows i) g < work_of (slice_get rows i) f
 moved_less rows i f g row at less = rw at less
+
+-- ---- a span of rows
+
+-- a frame stands at the root or before it
+pub frame_low : (nodes : List PlanNode) (rows : List Opened) (root : ℕ) (f : Frame) (fs : List Frame) → IsStack nodes rows root (f ∷ fs) → f.node ≤ root
+frame_low nodes rows root f fs is = let a = few_under nodes rows root f.node fs is.2 in omega arith
+
+-- one row is written, at the root or before it
+pub past_written : (rows : List Opened) (root m : ℕ) (y : Opened) → m ≤ root → StayPast root rows (set rows m y)
+past_written rows root m y low i past = set_other rows m i y (λ e. absurd (omega arith))
+
+-- rows that are no memos, and memos that were clean, stay
+pub step_stays : (nodes : List PlanNode) (rows rows' : List Opened) (readers readers' : Readers) (c c' : Clock) (i : ℕ) → IsGood nodes rows → IsStepped nodes rows rows' readers readers' c c' → i < length nodes → ((node : PlanNode) (row : Opened) → slice_get nodes i ≡ Some node → slice_get rows i ≡ Some row → node.kind ≡ Memo → is_clean row.colour ≡ true) → slice_get rows' i ≡ slice_get rows i
+step_stays nodes rows rows' readers readers' c c' i good step within clean =
+    let p = good.paired in
+    let q = step.since.paired in
+    let n = within_at nodes i within in
+    let old = within_at rows i (omega arith) in
+    let new = within_at rows' i (omega arith) in
+    by n.0 old.0 new.0 n.1 old.1 new.1 n.0.kind refl
+  where
+    by : (node : PlanNode) (old new : Opened) → slice_get nodes i ≡ Some node → slice_get rows i ≡ Some old → slice_get rows' i ≡ Some new → (k : Kind) → node.kind ≡ k → slice_get rows' i ≡ slice_get rows i
+    by node old new n o w Effect e = step.effects i node n e
+    by node old new n o w Memo e = w ∙ ap (λ (z : Opened). Some z) ((step.since.each i old new o w).clean (clean node old n o e)) ∙ sym o
+    by node old new n o w Signal e = w ∙ ap (λ (z : Opened). Some z) ((step.since.each i old new o w).clean ((good.each i node old n o).source (ap is_derived e))) ∙ sym o
+    by node old new n o w Field e = w ∙ ap (λ (z : Opened). Some z) ((step.since.each i old new o w).clean ((good.each i node old n o).source (ap is_derived e))) ∙ sym o
+    by node old new n o w Load e = w ∙ ap (λ (z : Opened). Some z) ((step.since.each i old new o w).clean ((good.each i node old n o).source (ap is_derived e))) ∙ sym o
+
+head_same : (r s : Opened) (rs ss : List Opened) → slice_get (s ∷ ss) 0 ≡ slice_get (r ∷ rs) 0 → is_clean s.colour ≡ is_clean r.colour
+head_same r s rs ss e = let same : s ≡ r = cc in ap (λ (z : Opened). is_clean z.colour) same
+
+-- at most so many rows came up to date as may have changed
+pub unclean_within : (rows rows' : List Opened) (from count : ℕ) → length rows' ≡ length rows → ((i : ℕ) → i < from → slice_get rows' i ≡ slice_get rows i) → ((i : ℕ) → from + count ≤ i → slice_get rows' i ≡ slice_get rows i) → unclean_count rows ≤ unclean_count rows' + count
+unfolding unclean_count
+unclean_within [] rows' from count long below past = omega arith
+unclean_within (r ∷ rs) [] from count long below past = absurd (omega arith)
+unclean_within (r ∷ rs) (s ∷ ss) (suc from) count long below past =
+    let rest = unclean_within rs ss from count (omega arith) (λ i l. below (suc i) (omega arith)) (λ i l. past (suc i) (omega arith)) in
+    rw (head_same r s rs ss (below 0 (omega arith))) (omega arith)
+unclean_within (r ∷ rs) (s ∷ ss) zero zero long below past =
+    let rest = unclean_within rs ss zero zero (omega arith) (λ i l. absurd (omega arith)) (λ i l. past (suc i) (omega arith)) in
+    rw (head_same r s rs ss (past 0 (omega arith))) (omega arith)
+unclean_within (r ∷ rs) (s ∷ ss) zero (suc count) long below past =
+    let rest = unclean_within rs ss zero count (omega arith) (λ i l. absurd (omega arith)) (λ i l. past (suc i) (omega arith)) in
+    by (is_clean r.colour) (is_clean s.colour) rest
+  where
+    by : (a b : Bool) → unclean_count rs ≤ unclean_count ss + count → (if a then 0 else 1) + unclean_count rs ≤ (if b then 0 else 1) + unclean_count ss + suc count
+    by true true h = omega arith
+    by true false h = omega arith
+    by false true h = omega arith
+    by false false h = omega arith
+
+module _ (nodes : List PlanNode) (rows rows' : List Opened) (readers readers' : Readers) (c c' : Clock) (from to : ℕ) (good : IsGood nodes rows) (step : IsStepped nodes rows rows' readers readers' c c') (span : from ≤ to) (within : to ≤ length nodes) (behind : (i : ℕ) (node : PlanNode) (row : Opened) → i < from → slice_get nodes i ≡ Some node → slice_get rows i ≡ Some row → node.kind ≡ Memo → is_clean row.colour ≡ true) (past : (i : ℕ) → to ≤ i → slice_get rows' i ≡ slice_get rows i) where
+  pub span_below : (i : ℕ) → i < from → slice_get rows' i ≡ slice_get rows i
+  span_below i l = step_stays nodes rows rows' readers readers' c c' i good step (omega arith) (λ node row n r k. behind i node row l n r k)
+
+  pub span_drawn : c'.drawn ≤ c.drawn + (to - from)
+  span_drawn =
+      let a = unclean_within rows rows' from (to - from) step.since.paired span_below (λ i l. past i (omega arith)) in
+      let b = step.spent in omega arith

@@ -78,6 +78,10 @@ pub record IsStepped (nodes : List PlanNode) (rows rows' : List Opened) (readers
   pub have_read : (m row : ℕ) → HasRead readers m row → HasRead readers' m row
   pub spent : after.drawn + unclean_count rows' ≤ before.drawn + unclean_count rows
 
+-- rows past this one are as they were
+abbrev pub StayPast : ℕ → List Opened → List Opened → Type 0
+StayPast node rows rows' = (i : ℕ) → node < i → slice_get rows' i ≡ slice_get rows i
+
 pub record IsOnward (nodes : List PlanNode) (rows rows' : List Opened) (root : ℕ) (frames frames' : List Frame) : Type 0 where
   pub stack : IsStack nodes rows' root frames'
   pub less : total nodes rows' frames' < total nodes rows frames

@@ -8,7 +8,7 @@ ghost use Rattle.sources.specs.Rows.{IsGood};
 ghost use Rattle.work_order.specs.Order.{first_frame};
 ghost use Rattle.still_rows.specs.Frames.{AreLawful, IsFrame, IsMemo};
 ghost use Rattle.still_rows.specs.Shown.{HasRoom};
-ghost use Rattle.still_rows.specs.Works.{IsStack, IsStill, IsStepped, IsOnward, unclean_count, HasUncleanMemo, work_of, EndsAs};
+ghost use Rattle.still_rows.specs.Works.{IsStack, IsStill, IsStepped, IsOnward, StayPast, unclean_count, HasUncleanMemo, work_of, EndsAs};
 
 use crate::clock::{Clock, Full};
 use crate::moves::{Moved, advance, row_at};
@@ -86,6 +86,7 @@ fn turn(
     requires room { HasRoom nodes.now reads.old }
     ensures room { room_of reads.new ≡ room_of reads.old }
     ensures stepped { IsStepped nodes.now rows.old rows.new readers.old readers.new clock.old clock.new }
+    ensures past { StayPast _root rows.old rows.new }
     ensures onward { OnOk result (IsOnward nodes.now rows.old rows.new _root (frame ∷ frames.old) frames.new) }
     ensures full { OnErr result (65536 ≤ clock.new.drawn) }
     ensures left { OnErr result (0 < unclean_count rows.new) }
@@ -122,6 +123,7 @@ pub fn bring_up(
     requires room { HasRoom nodes.now reads.old }
     ensures room { room_of reads.new ≡ room_of reads.old }
     ensures stepped { IsStepped nodes.now rows.old rows.new readers.old readers.new clock.old clock.new }
+    ensures past { StayPast root rows.old rows.new }
     ensures clean { OnOk result ((row : OpenedValue) → slice_get rows.new root ≡ Some row → is_clean row.colour ≡ true) }
     ensures full { OnErr result (65536 ≤ clock.new.drawn) }
     ensures left { OnErr result (0 < unclean_count rows.new) }

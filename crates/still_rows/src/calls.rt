@@ -9,12 +9,12 @@ ghost use Rattle.values.specs.Packing.{packed, unpacked};
 ghost use Rattle.still_readers.specs.Readers.{HasRead};
 ghost use Rattle.still_readers.specs.Marking.{IsDarkened, Reached, written_row, IsSource};
 ghost use Rattle.still_rows.specs.Clock.{IsTicked, now_of};
-ghost use Rattle.still_rows.specs.Works.{IsStill, IsStepped, IsWorkOf, unclean_count, HasUncleanMemo};
+ghost use Rattle.still_rows.specs.Works.{IsStill, IsStepped, IsWorkOf, StayPast, unclean_count, HasUncleanMemo};
 
 use crate::bring::bring_up;
 use crate::clock::{Clock, Full};
 use crate::evaluating::value_of;
-use crate::moves::row_at;
+use crate::moves::{node_at, row_at};
 use crate::stack::Stack;
 use sources::{Colour, Opened, Reads};
 use still_readers::{Marking, Readers, write_row};
@@ -45,6 +45,7 @@ pub fn refresh(
     requires kind { (n : NodeValue) → slice_get nodes.now node ≡ Some n → n.kind ≢ Kind.Effect }
     ensures work { IsWorkOf nodes.now work.new }
     ensures stepped { IsStepped nodes.now rows.old rows.new readers.old readers.new clock.old clock.new }
+    ensures past { StayPast node rows.old rows.new }
     ensures clean { OnOk result ((row : OpenedValue) → slice_get rows.new node ≡ Some row → is_clean row.colour ≡ true) }
     ensures full { OnErr result (65536 ≤ clock.new.drawn) }
     ensures left { OnErr result (0 < unclean_count rows.new) }
@@ -107,20 +108,55 @@ fn refresh_memo(
     clock: &mut Clock,
     work: &mut Work,
     at: u32,
-    node: &PlanNode,
 ) -> Result<(), Full>
     requires still { IsStill nodes.now rows.old readers.old clock.old }
     requires work { IsWorkOf nodes.now work.old }
-    requires node { slice_get nodes.now at ≡ Some node.now }
+    requires within { at < length nodes.now }
     ensures work { IsWorkOf nodes.now work.new }
     ensures stepped { IsStepped nodes.now rows.old rows.new readers.old readers.new clock.old clock.new }
-    ensures clean { OnOk result (node.now.kind ≡ Kind.Memo → (row : OpenedValue) → slice_get rows.new at ≡ Some row → is_clean row.colour ≡ true) }
+    ensures past { StayPast at rows.old rows.new }
+    ensures clean { OnOk result ((node : NodeValue) (row : OpenedValue) → slice_get nodes.now at ≡ Some node → slice_get rows.new at ≡ Some row → node.kind ≡ Kind.Memo → is_clean row.colour ≡ true) }
     ensures full { OnErr result (65536 ≤ clock.new.drawn) }
     ensures left { OnErr result (0 < unclean_count rows.new) }
     ensures memo_left { OnErr result (HasUncleanMemo nodes.now rows.new) }
 {
-    if node.kind == Kind::Memo {
+    if node_at(nodes, at).kind == Kind::Memo {
         return refresh(nodes, rows, readers, clock, work, at);
+    }
+    Ok(())
+}
+
+/// Brings the memos of the rows from one up to another up to date, in order of row, where all before
+/// them are. Only these rows are touched.
+pub fn settle_span(
+    nodes: &[PlanNode],
+    rows: &mut [Opened],
+    readers: &mut Readers,
+    clock: &mut Clock,
+    work: &mut Work,
+    from: u32,
+    to: u32,
+) -> Result<(), Full>
+    requires still { IsStill nodes.now rows.old readers.old clock.old }
+    requires work { IsWorkOf nodes.now work.old }
+    requires span { from ≤ to }
+    requires within { to ≤ length nodes.now }
+    requires behind { (i : ℕ) (node : NodeValue) (row : OpenedValue) → i < from → slice_get nodes.now i ≡ Some node →
+        slice_get rows.old i ≡ Some row → node.kind ≡ Kind.Memo → is_clean row.colour ≡ true }
+    ensures work { IsWorkOf nodes.now work.new }
+    ensures stepped { IsStepped nodes.now rows.old rows.new readers.old readers.new clock.old clock.new }
+    ensures below { (i : ℕ) → i < from → slice_get rows.new i ≡ slice_get rows.old i }
+    ensures past { (i : ℕ) → to ≤ i → slice_get rows.new i ≡ slice_get rows.old i }
+    ensures drawn { clock.new.drawn ≤ clock.old.drawn + (to - from) }
+    ensures settled { OnOk result ((i : ℕ) (node : NodeValue) (row : OpenedValue) → i < to → slice_get nodes.now i ≡ Some node →
+        slice_get rows.new i ≡ Some row → node.kind ≡ Kind.Memo →
+        (is_clean row.colour ≡ true) × (unpacked row.code ≡ plan_value nodes.now (value_in rows.old) i)) }
+    ensures full { OnErr result (65536 ≤ clock.new.drawn) }
+    ensures left { OnErr result (0 < unclean_count rows.new) }
+    ensures memo_left { OnErr result (HasUncleanMemo nodes.now rows.new) }
+{
+    for at in from..to {
+        refresh_memo(nodes, rows, readers, clock, work, at)?;
     }
     Ok(())
 }
@@ -144,10 +180,7 @@ pub fn settle_memos(
     ensures left { OnErr result (0 < unclean_count rows.new) }
     ensures memo_left { OnErr result (HasUncleanMemo nodes.now rows.new) }
 {
-    for (at, node) in nodes.iter().enumerate() {
-        refresh_memo(nodes, rows, readers, clock, work, at as u32, node)?;
-    }
-    Ok(())
+    settle_span(nodes, rows, readers, clock, work, 0, nodes.len() as u32)
 }
 
 /// Writes a row that is not derived, and marks what reads it. The answer is the write's number. After
@@ -172,6 +205,7 @@ pub fn set(
         IsDarkened (slice_set rows.old signal (written_row row (packed code) (now_of clock.new))) rows.new) }
     ensures direct { OnOk result ((m : ℕ) (row : OpenedValue) → HasRead readers.now m signal → slice_get rows.new m ≡ Some row → row.colour ≡ Colour.Dirty) }
     ensures further { OnOk result ((m : ℕ) (row : OpenedValue) → Reached readers.now signal m → slice_get rows.new m ≡ Some row → is_clean row.colour ≡ false) }
+    ensures others { OnOk result ((m : ℕ) → m ≢ signal → ¬ Reached readers.now signal m → slice_get rows.new m ≡ slice_get rows.old m) }
     ensures full { OnErr result (65536 ≤ clock.old.drawn) }
     ensures rows { OnErr result (rows.new ≡ rows.old) }
     ensures unchanged { OnErr result (clock.new ≡ clock.old) }

@@ -13,7 +13,7 @@ mod stack;
 mod writes;
 
 pub use bring::{Ended, Gone, bring_up, go_on};
-pub use calls::{Work, get, refresh, set, settle_memos};
+pub use calls::{Work, get, refresh, set, settle_memos, settle_span};
 pub use clock::{Clock, Full, PHASE_ROOM};
 pub use fresh::fresh_rows;
 pub use lawful::is_lawful;

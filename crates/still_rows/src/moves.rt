@@ -33,7 +33,7 @@ pub enum Moved {
     Finish(Code),
 }
 
-fn node_at(nodes: &[PlanNode], at: u32) -> &PlanNode
+pub(crate) fn node_at(nodes: &[PlanNode], at: u32) -> &PlanNode
     requires { at < length nodes.now }
     ensures { slice_get nodes.now at ≡ Some result.now }
 {

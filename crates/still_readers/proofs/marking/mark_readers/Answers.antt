@@ -1,4 +1,4 @@
-use Rattle.std.proofs.Common.{◌≡◌, ◌≤◌, ◌+◌, ℕ, Option, None, Some, ap, subst, length, get_or, arith}
+use Rattle.std.proofs.Common.{◌≡◌, ◌≤◌, ◌+◌, ◌∙◌, ℕ, Option, None, Some, refl, ap, subst, length, get_or, arith}
 use Rattle.still_readers.specs.Readers.{bound_of}
 use Rattle.still_readers.proofs.MarkingLemmas.{last_at, last_here, last_low, spreading_last, darkened_same, darkened_more}
 use Rattle.still_readers.proofs.marking.mark_readers.Goals as goal
@@ -13,7 +13,9 @@ loop-at-init c =
       within = last_low c.args.readers.now.list c.args.now _ o last;
       last = last_here c.args.readers.now.list c.args.now _ o last;
       spreading = spreading_last c.args.nodes.now c.args.rows.now c.args.readers.now c.args.marking.now c.args.signal c.args.now _ o last is;
+      met = c.requires.met;
       darkened = darkened_same c.args.rows.now;
+      others = (λ i none. refl);
       less = omega arith;
     }
 
@@ -33,7 +35,9 @@ loop-at-preserved c =
       within = omega arith;
       last = last_here list c.args.now c.in-Some.place c.mark-at.result e.last;
       spreading = spreading_last _ _ c.args.readers.now _ _ c.args.now c.in-Some.place c.mark-at.result e.last e.spreading;
+      met = e.met;
       darkened = darkened_more c.args.rows.now c.loop-at.rows c.mark-at.new.rows i.darkened e.darkened;
+      others = (λ n none. e.others n none ∙ i.others n none);
       less = (let x = e.less in let y = i.less in omega arith);
     }
 

@@ -1,9 +1,15 @@
-use Rattle.std.proofs.Common.{refl, arith}
-use Rattle.still_readers.proofs.MarkingLemmas.{taken, spread_out, darkened_same, darkened_more}
+use Rattle.std.proofs.Common.{◌∙◌, refl, arith}
+use Rattle.still_readers.proofs.MarkingLemmas.{taken, met_taken, spread_out, darkened_same, darkened_more}
 use Rattle.still_readers.proofs.marking.spread.Goals as goal
 
 pub loop-now-init : goal.loop-now-init
-loop-now-init c = record { spreading = (0, c.requires.spreading); darkened = darkened_same c.args.rows.now }
+loop-now-init c = record { spreading = (0, c.requires.spreading); met = c.requires.met; darkened = darkened_same c.args.rows.now; others = (λ i none. refl) }
+
+pub mark_readers-requires-clause-now : goal.mark_readers-requires-clause-now
+mark_readers-requires-clause-now c = (met_taken c.args.readers.now c.args.signal c.in-Some.now _ c.pop.new.self.list c.in-Some.ensures.list c.loop-now.invariant.met).1
+
+pub mark_readers-requires-clause-met : goal.mark_readers-requires-clause-met
+mark_readers-requires-clause-met c = (met_taken c.args.readers.now c.args.signal c.in-Some.now _ c.pop.new.self.list c.in-Some.ensures.list c.loop-now.invariant.met).0
 
 pub mark_readers-requires-clause-within : goal.mark_readers-requires-clause-within
 mark_readers-requires-clause-within c =
@@ -18,7 +24,9 @@ mark_readers-requires-clause-spreading c =
 pub loop-now-preserved : goal.loop-now-preserved
 loop-now-preserved c = let e = c.mark_readers.ensures in record {
   spreading = (c.in-Some.now, e.spreading);
+  met = e.met;
   darkened = darkened_more c.args.rows.now c.loop-now.rows c.mark_readers.new.rows c.loop-now.invariant.darkened e.darkened;
+  others = (λ i none. e.others i none ∙ c.loop-now.invariant.others i none);
 }
 
 pub loop-now-smaller : goal.loop-now-smaller

@@ -14,6 +14,7 @@ loop-frame-init c =
     record {
       room = refl;
       stepped = stepped_same _ _ _ _ c.requires.still;
+      past = (λ i l. refl);
       stack = subst (λ (l : List Frame). IsStack c.args.nodes.now c.args.rows.now c.args.root l) (sym e) (start_stack _ _ c.args.root y c.requires.still.good c.requires.memo c.requires.within c.row_at.ensures (c.requires.unclean y c.row_at.ensures));
     }
 
@@ -24,8 +25,12 @@ pub loop-frame-preserved : goal.loop-frame-preserved
 loop-frame-preserved c = record {
   room = c.in_ok-turn.ensures.room ∙ c.loop-frame.invariant.room;
   stepped = stepped_more _ _ c.loop-frame.rows _ _ c.loop-frame.readers _ _ c.loop-frame.clock _ c.loop-frame.invariant.stepped c.in_ok-turn.ensures.stepped;
+  past = (λ i l. c.in_ok-turn.ensures.past i l ∙ c.loop-frame.invariant.past i l);
   stack = c.in_ok-turn.ensures.onward.stack;
 }
 
 pub returns-in_err-turn-clause-stepped : goal.returns-in_err-turn-clause-stepped
 returns-in_err-turn-clause-stepped c = stepped_more _ _ c.loop-frame.rows _ _ c.loop-frame.readers _ _ c.loop-frame.clock _ c.loop-frame.invariant.stepped c.in_err-turn.ensures.stepped
+
+pub returns-in_err-turn-clause-past : goal.returns-in_err-turn-clause-past
+returns-in_err-turn-clause-past c = λ i l. c.in_err-turn.ensures.past i l ∙ c.loop-frame.invariant.past i l

@@ -1,12 +1,12 @@
-use Rattle.std.proofs.Common.{◌≡◌, ℕ, ◌<◌, ◌∷◌, List, length, sym, subst, ap, ◌∙◌, arith}
+use Rattle.std.proofs.Common.{◌≡◌, ℕ, ◌<◌, ◌∷◌, List, length, slice_get, refl, sym, subst, ap, ◌∙◌, arith}
 use Rattle.work_order.specs.declared.frame.Frame.{Frame}
 use Rattle.sources.specs.declared.opening.Opened.{Opened}
 use Rattle.still_rows.specs.declared.bring.Ended.{Ended}
 use Rattle.still_rows.specs.declared.clock.Clock.{Clock}
 use Rattle.work_order.specs.Order.{first_frame}
 use Rattle.still_rows.specs.Frames.{IsMemo}
-use Rattle.still_rows.specs.Works.{IsStepped, IsOnward, EndsAs, unclean_count, HasUncleanMemo}
-use Rattle.still_rows.proofs.WorksLemmas.{row_of, node_of, stepped_same, some_unclean, below_steps, keep_steps, finish_steps, few_under, run_runs, gone_stack, gone_less}
+use Rattle.still_rows.specs.Works.{IsStepped, IsOnward, StayPast, EndsAs, unclean_count, HasUncleanMemo}
+use Rattle.still_rows.proofs.WorksLemmas.{row_of, node_of, stepped_same, some_unclean, below_steps, keep_steps, finish_steps, few_under, run_runs, gone_stack, gone_less, frame_low, past_written}
 use Rattle.still_rows.proofs.FreshLemmas.{any_err}
 use Rattle.still_rows.proofs.bring.turn.Goals as goal
 
@@ -146,3 +146,25 @@ returns-in_err-finish-in-Finish-clause-memo_left c =
     let row = row_of c.args.nodes.now c.args.rows.now g c.requires.still.good e.frame in
     any_err c.from_residual.result (subst (λ (q : List Opened). HasUncleanMemo c.args.nodes.now q) (sym c.in_err-finish-in-Finish.ensures.rows)
     record { row = g.node; memo = subst (λ (i : ℕ). IsMemo c.args.nodes.now i) (sym e.node) c.requires.stack.1; opened = row.0; at = row.1; unclean = (e.frame.each node.0 row.0 node.1 row.1).unclean })
+
+pub returns-in-Keep-clause-past : goal.returns-in-Keep-clause-past
+returns-in-Keep-clause-past c =
+    let e = c.go_on-gone.ensures in
+    let row = row_of c.args.nodes.now c.args.rows.now c.go_on-gone.result.frame c.requires.still.good e.frame in
+    let low = frame_low c.args.nodes.now c.args.rows.now c.args._root c.args.frame c.args.frames.now c.requires.stack in
+    subst (λ (r : List Opened). StayPast c.args._root c.args.rows.now r) (sym (c.keep.ensures row.0 row.1))
+    (past_written c.args.rows.now c.args._root c.go_on-gone.result.frame.node _ (let n = e.node in omega arith))
+
+pub returns-in_ok-finish-in-Finish-clause-past : goal.returns-in_ok-finish-in-Finish-clause-past
+returns-in_ok-finish-in-Finish-clause-past c =
+    let e = c.go_on-gone.ensures in
+    let row = row_of c.args.nodes.now c.args.rows.now c.go_on-gone.result.frame c.requires.still.good e.frame in
+    let low = frame_low c.args.nodes.now c.args.rows.now c.args._root c.args.frame c.args.frames.now c.requires.stack in
+    subst (λ (r : List Opened). StayPast c.args._root c.args.rows.now r) (sym (c.in_ok-finish-in-Finish.ensures.finished row.0 row.1).run.put.is)
+    (past_written c.args.rows.now c.args._root c.go_on-gone.result.frame.node _ (let n = e.node in omega arith))
+
+pub returns-in_err-finish-in-Finish-clause-past : goal.returns-in_err-finish-in-Finish-clause-past
+returns-in_err-finish-in-Finish-clause-past c = λ i l. ap (λ (r : List Opened). slice_get r i) c.in_err-finish-in-Finish.ensures.rows
+
+pub returns-in-Below-clause-past : goal.returns-in-Below-clause-past
+returns-in-Below-clause-past c = λ i l. refl

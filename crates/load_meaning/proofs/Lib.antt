@@ -1,0 +1,11 @@
+pub mod Arrives
+pub mod First
+pub mod Keys
+pub mod Live
+pub mod Loadings
+pub mod Polls
+pub mod Promptly
+pub mod Rows
+pub mod Steps
+pub mod Texts
+pub mod Unasked
