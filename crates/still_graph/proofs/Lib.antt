@@ -17,3 +17,4 @@ pub mod Finished
 pub mod HoldsLoad
 pub mod WorkedKept
 pub mod Finishes
+pub mod LoadedKept

@@ -18,7 +18,11 @@ use values::{Fact, NoMemory, Noted, Reserved};
 
 impl Still {
     /// Settles a graph of which no phase has ended since it was settled.
-    pub(crate) fn settle_again<L: Loader>(&mut self, late: &mut Reserved<(u32, Late)>, loader: &mut L)
+    pub(crate) fn settle_again<L: Loader>(
+        &mut self,
+        late: &mut Reserved<(u32, Late)>,
+        loader: &mut L,
+    )
         requires open { self.old.stage ≢ Stage.Open }
         requires ended { self.old.stage ≢ Stage.Ended }
         requires ticks { ticks_of self.old.graph < 2 ^ 62 }

@@ -1,7 +1,8 @@
-use Rattle.std.proofs.Common.{◌≡◌, ◌≤◌, ◌+◌, [], sym, subst, take, ◌∙◌, arith}
+use Rattle.std.proofs.Common.{◌≡◌, ◌≤◌, ◌+◌, [], Result, Ok, Err, sym, subst, take, ◌∙◌, arith}
 use Rattle.std.specs.Prelude.{IfOk}
+use Rattle.std.specs.Result.{IsErr}
 use Rattle.std.specs.Bool.{OnTrue}
-use Rattle.std.proofs.lemmas.Bool.{OnTrue_from}
+use Rattle.std.proofs.lemmas.Bool.{true≢false, OnTrue_from}
 use Rattle.component_items.specs.declared.component.Component.{Component}
 use Rattle.component_items.specs.Kept.{IsKept}
 use Rattle.load_meaning.specs.Polls.{enough_rounds}
@@ -9,9 +10,13 @@ use Rattle.script_run.specs.Ran.{GoesOn}
 use Rattle.script_run.proofs.Runs.{counted_from}
 use Rattle.script_run.proofs.run.run_script.Goals as goal
 
+no_value : {A E : Type 0} (r : Result A E) (P : A → Type 0) → IsErr r → IfOk r P
+no_value (Ok a) P none = absurd (true≢false (sym none))
+no_value (Err e) P is = tt
+
 pub returns-in_err-run_phase-clause-prompt : goal.returns-in_err-run_phase-clause-prompt
 returns-in_err-run_phase-clause-prompt g c =
-    let none : IfOk c.from_residual-in_err-run_phase.result (λ ran. ran.pending ≡ []) = search in
+    let none : IfOk c.from_residual-in_err-run_phase.result (λ ran. ran.pending ≡ []) = no_value c.from_residual-in_err-run_phase.result _ c.from_residual-in_err-run_phase.ensures.0 in
     OnTrue_from g.L.Loader.is_prompt _ (λ e enough. none)
 
 pub loop-before-preserved : goal.loop-before-preserved
