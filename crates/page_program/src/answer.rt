@@ -1,15 +1,18 @@
 //! What the program answers to an input.
 
-ghost use Rattle.std.specs.Prelude.{◌≡◌, ◌≤◌, ◌++◌, ℕ, Bool, List, Some, length, IfOk, MatchResult};
+ghost use Rattle.std.specs.Prelude.{◌≡◌, ◌≤◌, ◌++◌, ℕ, [], List, Some, length, IfOk, MatchResult};
+ghost use Rattle.std.specs.Bool.{OnTrue};
 ghost use Rattle.std.specs.List.{flat_map};
 ghost use Rattle.values.specs.declared.limits.TheConstants.{MOST_INPUT_BYTES};
+ghost use Rattle.command_words.specs.declared.settings.Settings.{Settings as SettingsValue};
 ghost use Rattle.command_words.specs.Words.{StandFor};
+ghost use Rattle.load_meaning.specs.Polls.{enough_rounds};
 ghost use Rattle.plain_evaluation.specs.Page.{page_of};
 ghost use Rattle.script_items.specs.KeptFor.{IsKeptFor};
 ghost use Rattle.run_meaning.specs.Ending.{waiting_line};
 ghost use Rattle.page_program.specs.Ending.{text_of, ending_account};
 ghost use Rattle.page_program.specs.Outcome.{own_line};
-ghost use Rattle.page_program.specs.Run.{Reading, Input as InputValue, GaveAll, GivesEnd, StandForSome, IsBad, IsReadAs, IsRunDue, IsDue, component_of};
+ghost use Rattle.page_program.specs.Run.{Reading, Polling, Input as InputValue, GaveAll, GivesEnd, StandForSome, IsBad, IsReadAs, IsRunDue, IsDue, component_of};
 ghost use Rattle.script_run.specs.Ran.{IsRanTo};
 
 use crate::ending::{Ending, Text};
@@ -77,7 +80,8 @@ fn ended_as(
 
 /// What a run has come to behind its last settling.
 fn ended(alloc: Global, ran: Ran) -> Ending
-    ensures { (input : InputValue) (asked : Bool) → IsRanTo (component_of input) input.script asked ran → IsRunDue input asked result.outcome (ending_account result) (text_of result) }
+    ensures { (input : InputValue) (settings : SettingsValue) (polling : Polling) → IsRanTo (component_of input) input.script settings.answers settings.rounds polling.counts ran
+        → OnTrue polling.is_prompt (enough_rounds (component_of input) ≤ settings.rounds → ran.pending ≡ []) → IsRunDue input settings polling result.outcome (ending_account result) (text_of result) }
 {
     let Ran {
         still,
@@ -103,10 +107,11 @@ fn answer_to<L: Loader, G: Gate>(
 ) -> Ending
     requires kept { IsKeptFor input.component input.script input.component.texts }
     requires rounds { 1 ≤ settings.rounds }
-    ensures { (words : List (List ℕ)) (reading : Reading) (bytes : List ℕ) → StandFor words settings → GaveAll reading bytes → length bytes ≤ MOST_INPUT_BYTES → IsReadAs bytes input.component input.script → IsDue words reading result.outcome (ending_account result) (text_of result) }
+    ensures { let polling : Polling = record { is_prompt = L.is_prompt; counts = record { faults = L.faults loader.old; faults_after = L.faults loader.new; not_yets = L.not_yets loader.old; not_yets_after = L.not_yets loader.new } } in
+        (words : List (List ℕ)) (reading : Reading) (bytes : List ℕ) → StandFor words settings → GaveAll reading bytes → length bytes ≤ MOST_INPUT_BYTES → IsReadAs bytes input.component input.script → IsDue words reading polling result.outcome (ending_account result) (text_of result) }
 {
     let Input { component, script } = input;
-    if !runs_today(&component, &script) {
+    if !runs_today(&script) {
         return Ending::not_run(alloc, Outcome::Unbuilt, Text::Line(b"not built\n"));
     }
     let Settings { answers, rounds } = settings;
@@ -118,7 +123,7 @@ fn answer_to<L: Loader, G: Gate>(
 
 /// The line of an input that is refused.
 fn refused(alloc: Global, kind: u8, place: Place) -> Ending
-    ensures { (words : List (List ℕ)) (reading : Reading) → StandForSome words → GivesEnd reading (λ bytes. IsBad bytes kind place) → IsDue words reading result.outcome (ending_account result) (text_of result) }
+    ensures { (words : List (List ℕ)) (reading : Reading) (polling : Polling) → StandForSome words → GivesEnd reading (λ bytes. IsBad bytes kind place) → IsDue words reading polling result.outcome (ending_account result) (text_of result) }
 {
     match bad_text_line(alloc, kind, place) {
         Ok(line) => {
@@ -139,7 +144,8 @@ pub fn answer<L: Loader, G: Gate>(
 ) -> Ending
     requires few { length bytes.now ≤ MOST_INPUT_BYTES }
     requires rounds { 1 ≤ settings.rounds }
-    ensures { (words : List (List ℕ)) (reading : Reading) → StandFor words settings → GaveAll reading bytes.now → IsDue words reading result.outcome (ending_account result) (text_of result) }
+    ensures { let polling : Polling = record { is_prompt = L.is_prompt; counts = record { faults = L.faults loader.old; faults_after = L.faults loader.new; not_yets = L.not_yets loader.old; not_yets_after = L.not_yets loader.new } } in
+        (words : List (List ℕ)) (reading : Reading) → StandFor words settings → GaveAll reading bytes.now → IsDue words reading polling result.outcome (ending_account result) (text_of result) }
 {
     match read_input(alloc, bytes) {
         Ok(input) => answer_to(alloc, settings, input, loader, gate),

@@ -1,9 +1,12 @@
 //! The run of the program.
 
 ghost use Rattle.std.specs.Prelude.{◌≡◌, ◌≢◌, ◌≤◌, ◌<◌, ℕ, true, [], Some, None, List, length, IfSome};
+ghost use Rattle.std.specs.Bool.{OnTrue};
 ghost use Rattle.std.specs.Io.KnownBytes.{Appends};
+ghost use Rattle.command_words.specs.declared.settings.Settings.{Settings as SettingsValue};
 ghost use Rattle.command_words.specs.Words.{StandFor, texts_of};
 ghost use Rattle.component_items.specs.declared.refusal.Place.{Place};
+ghost use Rattle.load_meaning.specs.Polls.{enough_rounds};
 ghost use Rattle.outside.specs.Bytes.{AppendsPart};
 ghost use Rattle.outside.specs.Counts.{Rose};
 ghost use Rattle.run_items.specs.Journal.{JournalPhase};
@@ -11,7 +14,7 @@ ghost use Rattle.run_meaning.specs.Run.{IsRun};
 ghost use Rattle.page_program.specs.declared.finish.Outcome.{Outcome};
 ghost use Rattle.page_program.specs.Ending.{text_of, ending_account, account_of};
 ghost use Rattle.page_program.specs.Outcome.{status_of, own_line, is_before_run};
-ghost use Rattle.page_program.specs.Run.{Reading, Input, Means, IsBad, IsBuilt, GivesEnd, GivesInput, GivesTooMany, Request, EndsAsPage, EndsAsWaiting, IsDue, IsOr, IsReadOr, IsRunOr, StandForNone, StandForSome, component_of};
+ghost use Rattle.page_program.specs.Run.{Reading, Polling, RefusedAsOwed, Input, Means, IsBad, IsBuilt, GivesEnd, GivesInput, GivesTooMany, Request, EndsAsPage, EndsAsWaiting, IsDue, IsOr, IsReadOr, IsRunOr, StandForNone, StandForSome, component_of};
 ghost use Rattle.values.specs.declared.limits.TheConstants.{MOST_INPUT_BYTES};
 
 use crate::answer::answer;
@@ -33,7 +36,8 @@ fn prepared_by<S: Source, L: Loader, G: Gate>(
 ) -> Ending
     requires rounds { 1 ≤ settings.rounds }
     ensures { let reading : Reading = record { held = S.held source.old; left = S.held source.new; faults = S.faults source.old; faults_after = S.faults source.new } in
-        (words : List (List ℕ)) → StandFor words settings → IsDue words reading result.outcome (ending_account result) (text_of result) }
+        let polling : Polling = record { is_prompt = L.is_prompt; counts = record { faults = L.faults loader.old; faults_after = L.faults loader.new; not_yets = L.not_yets loader.old; not_yets_after = L.not_yets loader.new } } in
+        (words : List (List ℕ)) → StandFor words settings → IsDue words reading polling result.outcome (ending_account result) (text_of result) }
 {
     let bytes = match read_up_to(alloc, source, MOST_INPUT_BYTES) {
         Ok(bytes) => bytes,
@@ -57,7 +61,8 @@ fn prepared<S: Source, L: Loader, G: Gate>(
     gate: &G,
 ) -> Ending
     ensures due { let reading : Reading = record { held = S.held source.old; left = S.held source.new; faults = S.faults source.old; faults_after = S.faults source.new } in
-        IsDue (texts_of words.now) reading result.outcome (ending_account result) (text_of result) }
+        let polling : Polling = record { is_prompt = L.is_prompt; counts = record { faults = L.faults loader.old; faults_after = L.faults loader.new; not_yets = L.not_yets loader.old; not_yets_after = L.not_yets loader.new } } in
+        IsDue (texts_of words.now) reading polling result.outcome (ending_account result) (text_of result) }
     ensures unread { result.outcome ≡ Outcome.BadWords → source.new ≡ source.old }
 {
     match read_words(alloc, words) {
@@ -139,16 +144,22 @@ pub fn page<R, S: Source, K: Sink, L: Loader, G: Gate>(
     // The sink has taken exactly the report, where the words ask for it, and the page of the last state by plain
     // evaluation.
     ensures page { let reading : Reading = record { held = S.held source.old; left = S.held source.new; faults = S.faults source.old; faults_after = S.faults source.new } in
+        let polling : Polling = record { is_prompt = L.is_prompt; counts = record { faults = L.faults loader.old; faults_after = L.faults loader.new; not_yets = L.not_yets loader.old; not_yets_after = L.not_yets loader.new } } in
         result.outcome ≡ Outcome.Page → (request : Request (texts_of words.now) reading) × (text : List ℕ)
-        × EndsAsPage request.input request.settings.answers (account_of result) text × Appends (K.taken sink.old) (K.taken sink.new) text }
+        × EndsAsPage request.input request.settings polling (account_of result) text × Appends (K.taken sink.old) (K.taken sink.new) text }
 
     // The same, but exactly these loads are pending behind the last settling, and each has its line in the place of
-    // the page.
+    // the page. The loader refused, and where it goes by the attempts alone, the rounds were too few.
     ensures waiting { let reading : Reading = record { held = S.held source.old; left = S.held source.new; faults = S.faults source.old; faults_after = S.faults source.new } in
+        let polling : Polling = record { is_prompt = L.is_prompt; counts = record { faults = L.faults loader.old; faults_after = L.faults loader.new; not_yets = L.not_yets loader.old; not_yets_after = L.not_yets loader.new } } in
         (loads : List ℕ) → result.outcome ≡ Outcome.Waiting loads → (request : Request (texts_of words.now) reading) × (text : List ℕ)
-        × EndsAsWaiting request.input request.settings.answers loads (account_of result) text × Appends (K.taken sink.old) (K.taken sink.new) text }
+        × EndsAsWaiting request.input request.settings polling loads (account_of result) text × Appends (K.taken sink.old) (K.taken sink.new) text }
     ensures input_written { StandForSome (texts_of words.now) → IfSome (S.held source.old) (λ bytes. length bytes ≤ MOST_INPUT_BYTES →
         (input : Input) → Means bytes input → IsBuilt input → IsRunOr result.outcome) }
+
+    // A loader that goes by the attempts alone, and rounds that are enough for all loads: nothing stays pending.
+    ensures prompt { OnTrue L.is_prompt ((settings : SettingsValue) → StandFor (texts_of words.now) settings → IfSome (S.held source.old) (λ bytes. length bytes ≤ MOST_INPUT_BYTES →
+        (input : Input) → Means bytes input → IsBuilt input → enough_rounds (component_of input) ≤ settings.rounds → IsReadOr Outcome.Page result.outcome)) }
 
     // There is a journal only where the input was run to its last settling. It is that run's, and so are the answers.
     ensures journal { let reading : Reading = record { held = S.held source.old; left = S.held source.new; faults = S.faults source.old; faults_after = S.faults source.new } in
@@ -156,6 +167,13 @@ pub fn page<R, S: Source, K: Sink, L: Loader, G: Gate>(
         × IsRun (component_of request.input) request.input.script journal result.answers }
     ensures no_journal { is_before_run result.outcome ≡ true → (account_of result).journal ≡ None }
     ensures no_answers { (account_of result).journal ≡ None → result.answers ≡ [] }
+
+    // Where there is a journal, the loader refused as often as the run's settlings owe: for each behind which loads stayed
+    // pending, in each round but the last, and for each of these loads.
+    ensures loader_refused { let reading : Reading = record { held = S.held source.old; left = S.held source.new; faults = S.faults source.old; faults_after = S.faults source.new } in
+        let polling : Polling = record { is_prompt = L.is_prompt; counts = record { faults = L.faults loader.old; faults_after = L.faults loader.new; not_yets = L.not_yets loader.old; not_yets_after = L.not_yets loader.new } } in
+        (journal : List JournalPhase) → (account_of result).journal ≡ Some journal → (request : Request (texts_of words.now) reading)
+        × (run : IsRun (component_of request.input) request.input.script journal result.answers) × RefusedAsOwed request.input request.settings.rounds polling.counts journal result.answers run }
 
     // A read failed in this call.
     ensures read_fault { result.outcome ≡ Outcome.ReadFault → Rose (S.faults source.old) (S.faults source.new) }
@@ -165,8 +183,9 @@ pub fn page<R, S: Source, K: Sink, L: Loader, G: Gate>(
 
     // A write failed in this call, and a part of the text of the outcome that was due was written.
     ensures write_fault { let reading : Reading = record { held = S.held source.old; left = S.held source.new; faults = S.faults source.old; faults_after = S.faults source.new } in
+        let polling : Polling = record { is_prompt = L.is_prompt; counts = record { faults = L.faults loader.old; faults_after = L.faults loader.new; not_yets = L.not_yets loader.old; not_yets_after = L.not_yets loader.new } } in
         result.outcome ≡ Outcome.WriteFault → Rose (K.faults sink.old) (K.faults sink.new)
-        × (due : Outcome) × (text : List ℕ) × IsDue (texts_of words.now) reading due (account_of result) text × AppendsPart (K.taken sink.old) (K.taken sink.new) text }
+        × (due : Outcome) × (text : List ℕ) × IsDue (texts_of words.now) reading polling due (account_of result) text × AppendsPart (K.taken sink.old) (K.taken sink.new) text }
 {
     let ending = prepared(alloc, words, source, loader, gate);
     written(sink, ending)

@@ -90,7 +90,7 @@ fn inputs_give_their_pages_in_pieces_of_any_size(rt: HostRuntime) -> Result<(), 
 }
 
 #[test]
-fn inputs_are_refused_with_their_line(rt: HostRuntime) -> Result<(), Fail> {
+fn inputs_get_their_line(rt: HostRuntime) -> Result<(), Fail> {
     let rows: [(&[u8], u8, &str); 13] = [
         (b"", 3, "bad text 3 at 1:1\n"),
         (b"component 9", 3, "bad text 3 at 1:11\n"),
@@ -120,9 +120,9 @@ fn inputs_are_refused_with_their_line(rt: HostRuntime) -> Result<(), Fail> {
             "bad text 3 at 5:1\n",
         ),
         (
-            b"component 1\nresource r after 0 { 1 => 2 }\narea a { area b { load x = r(1) } }",
-            20,
-            "not built\n",
+            b"component 1\nresource r after 1 { 1 => 2 }\narea a { area b { load x = r(1) } }",
+            4,
+            "waiting a.b.x\n",
         ),
         (
             b"component 1\nsignal a = 1\n---\nphase lane set a = 2 lane",
@@ -203,7 +203,7 @@ fn a_place_is_told(rt: HostRuntime) -> Result<(), Fail> {
 }
 
 /// The input in which `|` stands for a line feed.
-fn lines(alloc: Global, text: &str) -> Result<Vec<u8>, Fail> {
+pub fn lines(alloc: Global, text: &str) -> Result<Vec<u8>, Fail> {
     let mut bytes = Vec::new(alloc);
     for byte in text.bytes() {
         bytes.push(if byte == b'|' { b'\n' } else { byte })?;
@@ -332,8 +332,8 @@ fn stores_are_edited(rt: HostRuntime) -> Result<(), Fail> {
             "1.1.1 edit 1 done|1.1.2 dispose now 1 before 0|1.1.3 disposed 1|journal 1.1 edit 1 0|journal 1.2 disposed 1|<b>end</b>",
         ),
         (
-            "component 1|signal user = \"Ann\"|signal done = 1|store todos max 50 { title = \"\" ok = 0 }|memo left = 3 - done|<h1>\"Todos of \" {user}</h1>|if left { <p>{left} \" left\"</p> }|<ul>each todos { <li data-id={row.key}>{row.title} if row.ok { \" (done)\" }</li> }</ul>|---|phase|lane insert todos 1 { title = \"Milk\" } insert todos 2 { title = \"Bread\" ok = 1 } set done = 2|phase|lane set user = \"Bob\"",
-            "1.1.1 edit 1 done|1.1.2 edit 2 done|1.1.3 set 3|journal 1.1 edit 1 0|journal 1.2 edit 1 1|journal 1.3 write 1 2|2.1.1 set 1|journal 2.1 write 0 \"Bob\"|<h1>Todos of Bob</h1><p>1 left</p><ul><li data-id=\"1\">Milk</li><li data-id=\"2\">Bread (done)</li></ul>",
+            "component 1|signal user = \"Ann\"|signal done = 1|store todos max 50 { title = \"\" ok = 0 }|memo left = 3 - done|<main class=\"app\">| <h1>\"Todos of \" {user}</h1>| if left { <p>{left} \" left\"</p> }| <ul>each todos { <li data-id={row.key}>{row.title} if row.ok { \" (done)\" }</li> }</ul>| area help { signal text = \"Press & type\" <footer>{text}</footer> cleanup \"help closed\" }|</main>|---|phase|lane insert todos 1 { title = \"Milk\" } insert todos 2 { title = \"Bread\" ok = 1 } set done = 2|phase|lane set user = \"Bob\"",
+            "1.1.1 edit 1 done|1.1.2 edit 2 done|1.1.3 set 3|journal 1.1 edit 1 0|journal 1.2 edit 1 1|journal 1.3 write 1 2|2.1.1 set 1|journal 2.1 write 0 \"Bob\"|<main class=\"app\"><h1>Todos of Bob</h1><p>1 left</p><ul><li data-id=\"1\">Milk</li><li data-id=\"2\">Bread (done)</li></ul><footer>Press &amp; type</footer></main>",
         ),
     ];
     for (input, output) in rows {

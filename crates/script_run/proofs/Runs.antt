@@ -5,6 +5,8 @@ use Rattle.std.proofs.lemmas.List.{append-nil, length-map, take_more, length-tak
 use Rattle.component_items.specs.declared.component.Component.{Component}
 use Rattle.script_items.specs.declared.operation.ScriptOp.{ScriptOp}
 use Rattle.run_items.specs.declared.answer.Answer.{Answer}
+use Rattle.outside.specs.Counts.{RoseByTogether}
+use Rattle.outside.proofs.CountLemmas.{RoseByTogether-then}
 use Rattle.held_state.specs.State.{HeldState, first_state}
 use Rattle.plain_evaluation.specs.Held.{Held, first_held}
 use Rattle.plain_evaluation.specs.Scratch.{pending}
@@ -13,19 +15,20 @@ use Rattle.run_meaning.specs.Lane.{Done}
 use Rattle.run_meaning.specs.Opened.{opened_of}
 use Rattle.run_meaning.specs.Phase.{Phase}
 use Rattle.run_meaning.specs.Report.{answer_lines, journal_lines}
-use Rattle.run_meaning.specs.Run.{Settled, more, after, phases_of, script_of, answers_of_lanes, answers_from, answers_of, journal_of, none, Runs, held_arrived}
+use Rattle.run_meaning.specs.Run.{Settled, more, after, phases_of, script_of, answers_of_lanes, answers_from, answers_of, journal_of, none, Runs, held_arrived, states_of, refusals_owed, refusals_of}
 use Rattle.report_text.proofs.LineLemmas.{report_from-push}
 use Rattle.run_weave.specs.Lanes.{told}
 use Rattle.script_run.specs.declared.run.Ran.{Ran}
 use Rattle.lane_run.specs.Lanes.{lanes_at}
 use Rattle.script_run.specs.Phases.{IsMade}
-use Rattle.script_run.specs.Ran.{IsRanTo, GoesOn}
+use Rattle.script_run.specs.Ran.{IsRanTo, GoesOn, LoaderCounts}
 use Rattle.script_run.specs.Settlings.{Settles}
 use Rattle.still_graph.specs.declared.still.Stage.TheVariants.{Made}
 use Rattle.still_graph.specs.Still.{StillState, IsSettledAfter}
 use Rattle.lane_run.proofs.Lists.{map_last}
 use Rattle.lane_run.proofs.Asked.{lanes_behind}
 use Rattle.script_run.proofs.Made.{told_ops}
+use Rattle.script_run.proofs.Rounds.{alone, refused_last}
 
 phases_last : (steps : List Settled) (s : Settled) → phases_of (steps ++ s ∷ []) ≡ phases_of steps ++ s.phase ∷ []
 phases_last steps s = map_last (λ (t : Settled). t.phase) steps s
@@ -67,14 +70,19 @@ report_more true component ps p n old new k was is =
     is ∙ ap (λ (t : List ℕ). t ++ lines_if true component.texts n p) was ∙ sym (report_from-push component.texts 1 n ps p k)
 report_more false component ps p n old new k was is = is ∙ append-nil old ∙ was
 
-pub runs_on : (component : Component) (script : List (List (List ScriptOp))) (asked : Bool) (before : ℕ) (old new : Ran) (mid : StillState) (q : Phase)
-    → before < length script → (so_far : GoesOn component (take before script) asked old) → IsMade (phases_of so_far.to.steps) old.still (lanes_at script (before + 1)) q mid
+-- what was counted, with one settling more
+abbrev pub counted_from : ℕ → ℕ → ℕ → ℕ → LoaderCounts
+counted_from faults faults_after not_yets not_yets_after = record { faults = faults; faults_after = faults_after; not_yets = not_yets; not_yets_after = not_yets_after }
+
+pub runs_on : (component : Component) (script : List (List (List ScriptOp))) (asked : Bool) (rounds before : ℕ) (old new : Ran) (mid : StillState) (q : Phase) (faults faults_between faults_after not_yets not_yets_between not_yets_after : ℕ)
+    → before < length script → (so_far : GoesOn component (take before script) asked rounds (counted_from faults faults_between not_yets not_yets_between) old) → IsMade (phases_of so_far.to.steps) old.still (lanes_at script (before + 1)) q mid
     → mid.component ≡ component → Settles mid new.still
     → new.answers ≡ old.answers ++ answers_of_lanes (before + 1) 1 (told q).lanes
     → new.report.items ≡ old.report.items ++ lines_if asked component.texts (before + 1) (told q)
     → new.pending ≡ pending new.still.component new.still.state.held
-    → GoesOn component (take (before + 1) script) asked new
-runs_on component script asked before old new mid q l so_far made same settles answers lines waiting =
+    → RoseByTogether (refusals_owed rounds new.pending) faults_between faults_after not_yets_between not_yets_after
+    → GoesOn component (take (before + 1) script) asked rounds (counted_from faults faults_after not_yets not_yets_after) new
+runs_on component script asked rounds before old new mid q faults faults_between faults_after not_yets not_yets_between not_yets_after l so_far made same settles answers lines waiting counted =
     let p : Phase = told q in
     let steps : List Settled = so_far.to.steps in
     let past : List Phase = phases_of steps in
@@ -83,7 +91,11 @@ runs_on component script asked before old new mid q l so_far made same settles a
     let last : phases_of (steps ++ s ∷ []) ≡ past ++ p ∷ [] = phases_last steps s in
     let many : length past ≡ before = as_many past script before l so_far.to.script_is in
     let is_component : new.still.component ≡ component = settles.component ∙ same in
-    let to : IsRanTo component (take (before + 1) script) asked new = record {
+    let pending_now : new.pending ≡ pending component new.still.state.held = waiting ∙ ap (λ (c : Component). pending c new.still.state.held) is_component in
+    let first : Held = held_arrived so_far.to.keys (first_held component) in
+    let owed : ℕ = refusals_of component rounds (states_of first steps) in
+    let all : refusals_of component rounds (states_of first (steps ++ s ∷ [])) ≡ owed + refusals_owed rounds new.pending = refused_last component rounds first steps s ∙ ap (λ (ids : List ℕ). owed + refusals_owed rounds ids) (sym pending_now) in
+    let to : IsRanTo component (take (before + 1) script) asked rounds (counted_from faults faults_after not_yets not_yets_after) new = record {
       keys = so_far.to.keys;
       steps = steps ++ s ∷ [];
       runs = more s ended.0 so_far.to.runs (made.opened ∙ ap (λ (c : Component). opened_of c old.still.state.held) so_far.to.component_is) made.is_phase (ended.1 ∙ ap (λ (c : Component). after c p ended.0) same);
@@ -91,8 +103,10 @@ runs_on component script asked before old new mid q l so_far made same settles a
       answers_are = ap answers_of last ∙ answers_last 1 past p (before + 1) (omega arith) ∙ ap (λ (t : List Answer). t ++ answers_of_lanes (before + 1) 1 p.lanes) so_far.to.answers_are ∙ sym answers;
       journal_is = ap journal_of last ∙ sym ended.2.journal;
       report_is = report_more asked component past p (before + 1) old.report.items new.report.items (omega arith) so_far.to.report_is lines ∙ ap (report_if asked component) (sym last);
-      pending_is = waiting ∙ ap (λ (c : Component). pending c new.still.state.held) is_component;
+      pending_is = pending_now;
       component_is = is_component;
+      refused = subst (λ (n : ℕ). RoseByTogether n faults faults_after not_yets not_yets_after) (sym all)
+      (RoseByTogether-then owed (refusals_owed rounds new.pending) faults faults_between faults_after not_yets not_yets_between not_yets_after so_far.to.refused counted);
     } in
     record { to = to; settled = subst (λ (ps : List Phase). IsSettledAfter ps new.still) (sym last) ended.2 }
 
@@ -102,13 +116,17 @@ no_lines : (asked : Bool) (component : Component) → [] ≡ report_if asked com
 no_lines true component = refl
 no_lines false component = refl
 
-pub begins : (component : Component) (asked : Bool) (made : StillState) (ran : Ran) → made.component ≡ component → made.state ≡ first_state component → made.stage ≡ Made → Settles made ran.still
-    → ran.answers ≡ [] → ran.report.items ≡ [] → ran.pending ≡ pending ran.still.component ran.still.state.held → GoesOn component [] asked ran
-begins component asked made ran same state stage settles answers lines waiting =
+pub begins : (component : Component) (asked : Bool) (rounds : ℕ) (made : StillState) (ran : Ran) (counts : LoaderCounts) → made.component ≡ component → made.state ≡ first_state component → made.stage ≡ Made → Settles made ran.still
+    → ran.answers ≡ [] → ran.report.items ≡ [] → ran.pending ≡ pending ran.still.component ran.still.state.held
+    → RoseByTogether (refusals_owed rounds ran.pending) counts.faults counts.faults_after counts.not_yets counts.not_yets_after → GoesOn component [] asked rounds counts ran
+begins component asked rounds made ran counts same state stage settles answers lines waiting counted =
     let first = settles.made stage in
     let is_component : ran.still.component ≡ component = settles.component ∙ same in
     let held : ran.still.state.held ≡ held_arrived first.0 (first_held component) = first.1 ∙ ap (λ (s : HeldState). held_arrived first.0 s.held) state in
-    let to : IsRanTo component [] asked ran = record {
+    let pending_now : ran.pending ≡ pending component ran.still.state.held = waiting ∙ ap (λ (c : Component). pending c ran.still.state.held) is_component in
+    let owed : refusals_owed rounds ran.pending ≡ refusals_of component rounds (states_of (held_arrived first.0 (first_held component)) []) =
+    ap (refusals_owed rounds) (pending_now ∙ ap (pending component) held) ∙ sym (alone (refusals_owed rounds (pending component (held_arrived first.0 (first_held component))))) in
+    let to : IsRanTo component [] asked rounds counts ran = record {
       keys = first.0;
       steps = [];
       runs = subst (λ (h : Held). Runs component (held_arrived first.0 (first_held component)) [] h) (sym held) none;
@@ -116,7 +134,8 @@ begins component asked made ran same state stage settles answers lines waiting =
       answers_are = sym answers;
       journal_is = sym first.2.journal;
       report_is = lines ∙ no_lines asked component;
-      pending_is = waiting ∙ ap (λ (c : Component). pending c ran.still.state.held) is_component;
+      pending_is = pending_now;
       component_is = is_component;
+      refused = subst (λ (n : ℕ). RoseByTogether n counts.faults counts.faults_after counts.not_yets counts.not_yets_after) owed counted;
     } in
     record { to = to; settled = first.2 }

@@ -1,5 +1,6 @@
 //! One phase of a run.
 ghost use Rattle.std.specs.Prelude.{◌≡◌, ◌≢◌, ◌≤◌, ◌<◌, ◌+◌, ◌-◌, ◌^◌, ◌∷◌, ◌++◌, [], ℕ, suc, true, false, All, List, length, map, take, drop, OnOk, if◌then◌else◌};
+ghost use Rattle.std.specs.Bool.{OnTrue};
 ghost use Rattle.script_items.specs.KeptFor.{AllOps, NamesMembers};
 ghost use Rattle.script_items.specs.Members.{members_of};
 ghost use Rattle.component_items.specs.Kept.{IsKept};
@@ -11,12 +12,12 @@ ghost use Rattle.run_meaning.specs.Lane.{Done};
 ghost use Rattle.run_meaning.specs.Phase.{Phase};
 ghost use Rattle.run_meaning.specs.Report.{answer_lines, journal_lines};
 ghost use Rattle.run_meaning.specs.Run.{answers_of_lanes};
+ghost use Rattle.load_meaning.specs.Polls.{enough_rounds};
 ghost use Rattle.phase_graph.specs.Graph.{ticks_of};
 ghost use Rattle.lane_run.specs.Lanes.{lanes_at};
 ghost use Rattle.lane_run.specs.Today.{LanesRun};
 ghost use Rattle.script_run.specs.Phases.{IsMade};
-ghost use Rattle.still_graph.specs.Loads.{has_load};
-ghost use Rattle.script_run.specs.Ran.{GoesOn};
+ghost use Rattle.script_run.specs.Ran.{GoesOn, LoaderCounts};
 ghost use Rattle.still_graph.specs.Still.{opened_in, IsSettledAfter, IsOpenAt, HasEnded};
 ghost use Rattle.script_run.specs.Today.{RunsToday};
 ghost use Rattle.still_graph.specs.declared.still.Stage.TheVariants as stage;
@@ -109,14 +110,16 @@ pub(crate) fn run_phase<L: Loader, G: Gate>(
     requires within { before < length script.now }
     requires few { length script.now ≤ 64 }
     requires named { AllOps (NamesMembers (members_of ran.old.still.component.items)) script.now }
-    requires today { RunsToday ran.old.still.component script.now }
+    requires today { RunsToday script.now }
     requires kept { IsKept ran.old.still.component }
     requires rounds { 1 ≤ rounds }
     requires ticks { ticks_of ran.old.still.graph < 2 ^ 60 }
-    requires so_far { GoesOn ran.old.still.component (take before script.now) asked ran.old }
+    requires so_far { (counts : LoaderCounts) × GoesOn ran.old.still.component (take before script.now) asked rounds counts ran.old }
     ensures component { OnOk result (ran.new.still.component ≡ ran.old.still.component) }
     ensures ticks { OnOk result (ticks_of ran.new.still.graph ≤ ticks_of ran.old.still.graph + 2 ^ 47) }
-    ensures goes_on { OnOk result (GoesOn ran.old.still.component (take (before + 1) script.now) asked ran.new) }
+    ensures goes_on { OnOk result ((faults not_yets : ℕ) → GoesOn ran.old.still.component (take before script.now) asked rounds (record { faults = faults; faults_after = L.faults loader.old; not_yets = not_yets; not_yets_after = L.not_yets loader.old }) ran.old
+        → GoesOn ran.old.still.component (take (before + 1) script.now) asked rounds (record { faults = faults; faults_after = L.faults loader.new; not_yets = not_yets; not_yets_after = L.not_yets loader.new }) ran.new) }
+    ensures prompt { OnTrue L.is_prompt (enough_rounds ran.old.still.component ≤ rounds → OnOk result (ran.new.pending ≡ [])) }
 {
     let phase = before + 1;
     let first = ran.answers.len();

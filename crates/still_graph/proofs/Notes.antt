@@ -7,37 +7,16 @@ use Rattle.values.specs.declared.plan.Noted.{Noted}
 use Rattle.store_fields.specs.declared.edit.Verdict.{Verdict}
 use Rattle.script_items.specs.Script.{numbered}
 use Rattle.component_items.specs.declared.component.Component.{Component}
-use Rattle.plain_evaluation.specs.Held.{Holding, nothing, value, stored, arrived, Held, arrived_in, arrived_held}
+use Rattle.plain_evaluation.specs.Held.{Held}
 use Rattle.run_meaning.specs.Entries.{disposed_by, disposed_in}
 use Rattle.run_meaning.specs.Edits.{Ordered, held_edited, held_written, edit_of, edits_of}
 use Rattle.run_meaning.specs.Lane.{Done}
 use Rattle.run_meaning.specs.Phase.{Phase}
-use Rattle.run_meaning.specs.Run.{holding_arrived, holdings_arrived, held_arrived, held_disposed, after}
+use Rattle.run_meaning.specs.Run.{held_disposed}
 use Rattle.run_history.specs.Going.{is_edit_by}
 use Rattle.run_weave.specs.Lanes.{verdict_of}
 use Rattle.phase_edits.specs.Told.{edit_numbers, AreTold}
-use Rattle.still_graph.specs.Settling.{keeps_rows, all_keep_rows}
-
--- ---- the keys that have arrived are those that had
-
-arrived_as : (hs all : List Holding) (k : ℕ) → ((i : ℕ) → slice_index_or all (k + i) nothing ≡ slice_index_or hs i nothing) → holdings_arrived (λ id. arrived_in (slice_index_or all id nothing)) k hs ≡ hs
-arrived_as [] all k same = refl
-arrived_as (h ∷ hs) all k same = λ i. here h (ap (λ (n : ℕ). slice_index_or all n nothing) first ∙ same 0) i ∷ arrived_as hs all (suc k) (λ n. ap (λ (m : ℕ). slice_index_or all m nothing) (next n) ∙ same (suc n)) i
-  where
-    first : k ≡ k + 0
-    first = omega arith
-
-    next : (n : ℕ) → suc k + n ≡ k + suc n
-    next n = omega arith
-
-    here : (x : Holding) → slice_index_or all k nothing ≡ x → holding_arrived (arrived_in (slice_index_or all k nothing)) x ≡ x
-    here nothing e = refl
-    here (value code) e = refl
-    here (stored store) e = refl
-    here (arrived key) e = ap arrived (ap arrived_in e)
-
-pub arrived_itself : (held : Held) → held_arrived (arrived_held held) held ≡ held
-arrived_itself held = λ i. record { holdings = arrived_as held.holdings held.holdings 0 (λ n. let e : 0 + n ≡ n = omega arith in ap (λ (m : ℕ). slice_index_or held.holdings m nothing) e) i; live = held.live }
+use Rattle.still_graph.specs.Settling.{held_folded, keeps_rows, all_keep_rows}
 
 -- ---- where no row comes or goes
 
@@ -94,10 +73,7 @@ nothing_told p verdicts empty all = record { each = λ pass is. ap (λ (vs : Lis
 
 -- ---- what is held behind a phase
 
-pub after_edits : (component : Component) (p : Phase) (held : Held) → held ≡ held_disposed component (disposed_in p.entries) (held_edited (edits_of p.lanes p.entries) (held_written p.opened p.entries)) → held ≡ after component p (arrived_held held)
-after_edits component p held is = sym (arrived_itself held) ∙ ap (held_arrived (arrived_held held)) is
-
-pub after_writes : (component : Component) (p : Phase) (held : Held) → all_keep_rows p.entries ≡ true → held ≡ held_written p.opened p.entries → held ≡ after component p (arrived_held held)
-after_writes component p held all is = after_edits component p held (is
+pub folded_writes : (component : Component) (p : Phase) (held : Held) → all_keep_rows p.entries ≡ true → held ≡ held_written p.opened p.entries → held ≡ held_folded component p
+folded_writes component p held all is = is
     ∙ sym (ap (λ (xs : List Ordered). held_edited xs (held_written p.opened p.entries)) (none_edited p.lanes p.entries all))
-    ∙ sym (ap (λ (owners : List ℕ). held_disposed component owners (held_edited (edits_of p.lanes p.entries) (held_written p.opened p.entries))) (none_disposed p.entries all)))
+    ∙ sym (ap (λ (owners : List ℕ). held_disposed component owners (held_edited (edits_of p.lanes p.entries) (held_written p.opened p.entries))) (none_disposed p.entries all))

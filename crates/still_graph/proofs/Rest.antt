@@ -1,117 +1,111 @@
--- Where sources have the values that the text gives them, and memos those of their expressions, all is plain evaluation.
-use Rattle.std.proofs.Common.{◌≡◌, ◌≢◌, ℕ, zero, suc, false, List, [], ◌∷◌, length, Some, slice_get, refl, sym, ap, subst, ◌∙◌, arith}
+-- Where the sources have their values by plain evaluation, and memos those of their expressions, all is plain evaluation,
+-- and shows held state.
+use Rattle.std.proofs.Common.{◌≡◌, ◌≢◌, ℕ, false, List, length, Some, slice_get, refl, sym, ap, subst, ◌∙◌}
+use Rattle.std.proofs.lemmas.Option.{get_or_from_slice_get}
 use Rattle.values.specs.declared.code.Code.{Code}
+use Rattle.values.specs.declared.code.Code.TheVariants.{Empty}
 use Rattle.values.specs.declared.plan.Kind.{Kind}
 use Rattle.values.specs.declared.plan.Kind.TheVariants as kind
 use Rattle.values.specs.declared.plan.Plan.{Plan}
 use Rattle.values.specs.declared.plan.PlanNode.{PlanNode}
 use Rattle.values.specs.Packing.{unpacked}
-use Rattle.values.specs.PlanValues.{is_derived, plan_value, ReadsBack}
-use Rattle.values.proofs.PlanValuesLemmas.{plan_value-source, plan_value-derived, lawful_back}
+use Rattle.values.specs.PlanValues.{is_derived, value_at, plan_value, HaveSameSources}
+use Rattle.values.proofs.PlanValuesLemmas.{plan_value-by_sources}
 use Rattle.component_items.specs.declared.component.Component.{Component}
 use Rattle.component_items.specs.Kept.{IsKept}
 use Rattle.sources.specs.declared.opening.Opened as rows
-use Rattle.sources.specs.Rows.{code_in, value_in}
+use Rattle.sources.specs.Rows.{value_in}
 use Rattle.plain_evaluation.specs.Fits.{RowsFit}
 use Rattle.plain_evaluation.specs.Held.{Held}
 use Rattle.plain_evaluation.specs.Keyed.{is_keyed}
+use Rattle.plain_evaluation.specs.Place.{Place}
 use Rattle.plain_evaluation.specs.Scratch.{scratch_in}
-use Rattle.plain_evaluation.specs.Written.{State, given, kind_said, Written, place_of, state_of, written_in}
+use Rattle.plain_evaluation.specs.Written.{State, given, loaded, Says, kind_said, Written, place_of, state_of, written_in}
 use Rattle.plan_meaning.specs.Layout.{rows_of, places_of, node_of, plan_of}
-use Rattle.plan_meaning.specs.Settled.{AreSettled}
+use Rattle.plan_meaning.specs.There.{AreNested}
 use Rattle.plan_meaning.specs.Values.{row_values}
-use Rattle.plan_meaning.proofs.Owners.{lawful}
+use Rattle.plan_meaning.proofs.Evaluates.{value_of_row, rows_evaluate}
 use Rattle.plan_meaning.proofs.Rows.{row_among, map_at, at_map}
-use Rattle.plan_meaning.proofs.Settled.{settled_row}
+use Rattle.plan_meaning.proofs.Settled.{evaluation_settles}
+use Rattle.held_rows.proofs.Given.{GivenSo, are_given}
+use Rattle.load_polls.specs.Shown.{SourcesShow}
+use Rattle.next_layout.proofs.Rows.{fellow, row_value}
 use Rattle.phase_graph.specs.Graph.{GraphState}
-use Rattle.still_graph.specs.Loads.{has_load}
-use Rattle.still_graph.specs.Stands.{HasPlainValues}
-use Rattle.still_graph.proofs.HeldLines.{SaysHeld, is_held, not_loaded}
+use Rattle.still_graph.specs.Stands.{KeysStand, HasPlainValues}
+use Rattle.still_graph.proofs.LoadRows.{plain_load}
 
-code_at : (rs : List rows.Opened) (i : ℕ) (row : rows.Opened) → slice_get rs i ≡ Some row → code_in rs i ≡ row.code
-unfolding code_in
-code_at [] i row is = cc
-code_at (x ∷ rs) zero row is = let e : x ≡ row = cc in ap (λ (r : rows.Opened). r.code) e
-code_at (x ∷ rs) (suc i) row is = code_at rs i row is
-
-pub row_value : (rs : List rows.Opened) (i : ℕ) (row : rows.Opened) → slice_get rs i ≡ Some row → value_in rs i ≡ unpacked row.code
-row_value rs i row is = ap unpacked (code_at rs i row is)
-
--- where two lists are as long, what is in one has a fellow in the other
-pub fellow : {A B : Type 0} (xs : List A) (ys : List B) → length xs ≡ length ys → (n : ℕ) (y : B) → slice_get ys n ≡ Some y → (x : A) × (slice_get xs n ≡ Some x)
-fellow [] [] long n y is = cc
-fellow [] (z ∷ ys) long n y is = absurd (omega arith)
-fellow (x ∷ xs) [] long n y is = absurd (omega arith)
-fellow (x ∷ xs) (z ∷ ys) long zero y is = (x, refl)
-fellow (x ∷ xs) (z ∷ ys) long (suc n) y is = fellow xs ys (omega arith) n y is
-
--- what is given is no memo's and no effect's
-given_source : (state : State) (w : Written) (k : Kind) (code : Code) → SaysHeld state w (given k code) → is_derived k ≡ false
-given_source state w kind.Signal code is = refl
-given_source state w kind.Field code is = refl
-given_source state w kind.Load code is = absurd is
-given_source state w kind.Memo code is = absurd is
-given_source state w kind.Effect code is = absurd is
-
--- the rows of the sources of a layout have the values that the text gives them
-abbrev pub SourcesAreSaid : Component → State → List rows.Opened → Type 0
-SourcesAreSaid component state xs = (row : ℕ) (w : Written) (k : Kind) (code : Code) → slice_get (rows_of (written_in component state)) row ≡ Some w → w.says ≡ given k code → value_in xs row ≡ code
-
-module _ (component : Component) (state : State) (kept : IsKept component) (fits : RowsFit component state) (none : has_load component.items ≡ false) (xs : List rows.Opened) (said : SourcesAreSaid component state xs) where
+module _ (component : Component) (held : Held) (kept : IsKept component) (fits : RowsFit component (state_of held)) where
   abbrev ws : List Written
-  ws = written_in component state
+  ws = written_in component (state_of held)
 
-  abbrev nodes : List PlanNode
-  nodes = (plan_of component state).nodes
+  abbrev values : List Code
+  values = row_values component (state_of held)
 
-  abbrev values : ℕ → Code
-  values = plan_value nodes (value_in xs)
+  -- what the value of a row is, and that there is one
+  row_at : (n : ℕ) (node : PlanNode) → slice_get (plan_of component (state_of held)).nodes n ≡ Some node → slice_get values n ≡ Some (value_at values n)
+  row_at n node at_node =
+      let one = map_at (node_of (is_keyed component) (places_of ws)) (rows_of ws) n node at_node in
+      let at_place = at_map place_of (rows_of ws) n one.0 one.1 in
+      at_map (scratch_in component (state_of held)) (places_of ws) n (place_of one.0) at_place
+      ∙ ap (λ (code : Code). Some code) (sym (value_of_row (scratch_in component (state_of held)) (places_of ws) n (place_of one.0) at_place))
 
-  back : ReadsBack nodes
-  back = lawful_back (plan_of component state) (lawful component state kept fits)
+  -- ---- every memo is brought up to date
 
-  settles : AreSettled component state values
-  settles = record {
-    sources = λ row w k code is says. (
-        let at_node = at_map (node_of (is_keyed component) (places_of ws)) (rows_of ws) row w is in
-        let source = given_source state w k code (subst (SaysHeld state w) says (is_held component state w (row_among ws row w is)).says) in
-        plan_value-source nodes (value_in xs) back row (node_of (is_keyed component) (places_of ws) w) at_node (ap is_derived (ap kind_said says) ∙ source)
-        ∙ said row w k code is says);
-    loads = λ row key w pairs arrived is says at_key. absurd (not_loaded component state none w (row_among ws row w is) pairs arrived says);
-    memos = λ row node is memo. plan_value-derived nodes (value_in xs) back row node is (ap is_derived memo);
-  }
+  module _ (old new : GraphState) (plan : old.plan ≡ plan_of component (state_of held)) (same : HaveSameSources old.plan.nodes (value_in old.rows) (value_at values))
+      (memos : (n : ℕ) (node : PlanNode) (row : rows.Opened) → slice_get old.plan.nodes n ≡ Some node → slice_get new.rows n ≡ Some row → node.kind ≡ kind.Memo → unpacked row.code ≡ plan_value old.plan.nodes (value_in old.rows) n)
+      (sources : (n : ℕ) (node : PlanNode) → slice_get old.plan.nodes n ≡ Some node → is_derived node.kind ≡ false → slice_get new.rows n ≡ slice_get old.rows n) (same_plan : new.plan ≡ old.plan) where
+    brought : plan_value old.plan.nodes (value_in old.rows) ≡ value_at values
+    brought =
+        plan_value-by_sources old.plan.nodes (value_in old.rows) (value_at values) same
+        ∙ ap (λ (q : Plan). plan_value q.nodes (value_at values)) plan
+        ∙ ap value_at (rows_evaluate component (state_of held) kept fits)
 
-  module _ (ys : List rows.Opened)
-      (memos : (n : ℕ) (node : PlanNode) (row : rows.Opened) → slice_get nodes n ≡ Some node → slice_get ys n ≡ Some row → node.kind ≡ kind.Memo → unpacked row.code ≡ plan_value nodes (value_in xs) n)
-      (sources : (n : ℕ) (node : PlanNode) → slice_get nodes n ≡ Some node → is_derived node.kind ≡ false → slice_get ys n ≡ slice_get xs n) where
-    source_value : (n : ℕ) (node : PlanNode) (row : rows.Opened) → slice_get nodes n ≡ Some node → slice_get ys n ≡ Some row → is_derived node.kind ≡ false → unpacked row.code ≡ values n
-    source_value n node row at_node at_row source = sym (row_value xs n row (sym (sources n node at_node source) ∙ at_row)) ∙ sym (plan_value-source nodes (value_in xs) back n node at_node source)
+    source_value : (n : ℕ) (node : PlanNode) (row : rows.Opened) → slice_get old.plan.nodes n ≡ Some node → slice_get new.rows n ≡ Some row → is_derived node.kind ≡ false → unpacked row.code ≡ value_at values n
+    source_value n node row at_node at_row source = sym (row_value old.rows n row (sym (sources n node at_node source) ∙ at_row)) ∙ same.same n node at_node source
 
-    has_value : (n : ℕ) (node : PlanNode) (row : rows.Opened) → slice_get nodes n ≡ Some node → slice_get ys n ≡ Some row → (k : Kind) → node.kind ≡ k → k ≢ kind.Effect → unpacked row.code ≡ values n
+    has_value : (n : ℕ) (node : PlanNode) (row : rows.Opened) → slice_get old.plan.nodes n ≡ Some node → slice_get new.rows n ≡ Some row → (k : Kind) → node.kind ≡ k → k ≢ kind.Effect → unpacked row.code ≡ value_at values n
     has_value n node row at_node at_row kind.Signal is non = source_value n node row at_node at_row (ap is_derived is)
     has_value n node row at_node at_row kind.Field is non = source_value n node row at_node at_row (ap is_derived is)
     has_value n node row at_node at_row kind.Load is non = source_value n node row at_node at_row (ap is_derived is)
-    has_value n node row at_node at_row kind.Memo is non = memos n node row at_node at_row is
+    has_value n node row at_node at_row kind.Memo is non = memos n node row at_node at_row is ∙ ap (λ (f : ℕ → Code). f n) brought
     has_value n node row at_node at_row kind.Effect is non = absurd (non refl)
 
-    pub plain_values : (n : ℕ) (node : PlanNode) (row : rows.Opened) → slice_get nodes n ≡ Some node → slice_get ys n ≡ Some row → node.kind ≢ kind.Effect → slice_get (row_values component state) n ≡ Some (unpacked row.code)
-    plain_values n node row at_node at_row non =
-        let one = map_at (node_of (is_keyed component) (places_of ws)) (rows_of ws) n node at_node in
-        let at_place = at_map place_of (rows_of ws) n one.0 one.1 in
-        at_map (scratch_in component state) (places_of ws) n (place_of one.0) at_place
-        ∙ ap (λ (code : Code). Some code) (sym (settled_row component state kept fits values settles n (place_of one.0) node at_place at_node non) ∙ sym (has_value n node row at_node at_row node.kind refl non))
+    pub at_rest : HasPlainValues component held new
+    at_rest n node row at_node at_row non =
+        let there : slice_get old.plan.nodes n ≡ Some node = ap (λ (q : Plan). slice_get q.nodes n) (sym same_plan) ∙ at_node in
+        row_at n node (ap (λ (q : Plan). slice_get q.nodes n) (sym plan) ∙ there)
+        ∙ ap (λ (code : Code). Some code) (sym (has_value n node row there at_row node.kind refl non))
 
--- every memo of a plan is brought up to date
-pub record IsBrought (old new : GraphState) : Type 0 where
-  pub plan : new.plan ≡ old.plan
-  pub memos : (n : ℕ) (node : PlanNode) (row : rows.Opened) → slice_get old.plan.nodes n ≡ Some node → slice_get new.rows n ≡ Some row → node.kind ≡ kind.Memo → unpacked row.code ≡ plan_value old.plan.nodes (value_in old.rows) n
-  pub sources : (n : ℕ) (node : PlanNode) → slice_get old.plan.nodes n ≡ Some node → is_derived node.kind ≡ false → slice_get new.rows n ≡ slice_get old.rows n
+  -- ---- what is at rest shows held state
 
--- a settling of the graph brings it to rest
-pub at_rest : (component : Component) (held : Held) → IsKept component → RowsFit component (state_of held) → has_load component.items ≡ false
-    → (old new : GraphState) → old.plan ≡ plan_of component (state_of held) → SourcesAreSaid component (state_of held) old.rows → IsBrought old new → HasPlainValues component held new
-at_rest component held kept fits none old new plan said brought n node row at_node at_row non =
-    plain_values component (state_of held) kept fits none old.rows said new.rows
-    (λ m nd r a b k. brought.memos m nd r (ap (λ (p : Plan). slice_get p.nodes m) plan ∙ a) b k ∙ ap (λ (p : Plan). plan_value p.nodes (value_in old.rows) m) plan)
-    (λ m nd a k. brought.sources m nd (ap (λ (p : Plan). slice_get p.nodes m) plan ∙ a) k)
-    n node row (sym (ap (λ (p : Plan). slice_get p.nodes n) (brought.plan ∙ plan)) ∙ at_node) at_row non
+  module _ (nested : AreNested component (state_of held)) (stand : KeysStand component held) (graph : GraphState) (plan : graph.plan ≡ plan_of component (state_of held)) (paired : length graph.rows ≡ length graph.plan.nodes) (plain : HasPlainValues component held graph) where
+    -- the row of a line that is no effect's
+    line_value : (row : ℕ) (w : Written) → slice_get (rows_of ws) row ≡ Some w → kind_said w.says ≢ kind.Effect → value_in graph.rows row ≡ value_at values row
+    line_value row w at non =
+        let node : PlanNode = node_of (is_keyed component) (places_of ws) w in
+        let at_node : slice_get graph.plan.nodes row ≡ Some node = ap (λ (q : Plan). slice_get q.nodes row) plan ∙ at_map (node_of (is_keyed component) (places_of ws)) (rows_of ws) row w at in
+        let one = fellow graph.rows graph.plan.nodes paired row node at_node in
+        row_value graph.rows row one.0 one.1
+        ∙ sym (get_or_from_slice_get values row (unpacked one.0.code) Empty (plain row node one.0 at_node one.1 non))
+
+    given_kind : (w : Written) (k : Kind) (code : Code) → GivenSo (state_of held) w.id w.scene.row (given k code) → k ≢ kind.Effect
+    given_kind w kind.Signal code is = λ e. cc
+    given_kind w kind.Field code is = λ e. cc
+    given_kind w kind.Load code is = λ e. cc
+    given_kind w kind.Memo code is = λ e. cc
+    given_kind w kind.Effect code is = absurd is
+
+    pub rest_shows : SourcesShow component (state_of held) graph.rows
+    rest_shows = record {
+      given_so = λ row w k code at says. (
+          let non = given_kind w k code (subst_says w (given k code) says (are_given component (state_of held) kept w (row_among ws row w at))) in
+          line_value row w at (λ e. non (sym (ap kind_said says) ∙ e))
+          ∙ (evaluation_settles component (state_of held) kept fits).sources row w k code at says);
+      loaded_so = λ row w pairs now at says. (
+          line_value row w at (λ e. (let f : kind.Load ≡ kind.Effect = sym (ap kind_said says) ∙ e in cc))
+          ∙ value_of_row (scratch_in component (state_of held)) (places_of ws) row (place_of w) (at_map place_of (rows_of ws) row w at)
+          ∙ plain_load component held kept fits nested stand row w pairs now at says);
+    }
+      where
+        subst_says : (w : Written) (says : Says) → w.says ≡ says → GivenSo (state_of held) w.id w.scene.row w.says → GivenSo (state_of held) w.id w.scene.row says
+        subst_says w says is so = subst (GivenSo (state_of held) w.id w.scene.row) is so

@@ -24,6 +24,8 @@ moved x room more graph journal stage still plan at = record {
   fits = still.fits;
   places = still.places;
   plan = plan ∙ still.plan;
+  in_step = still.in_step;
+  keys = still.keys;
   at_stage = at;
 }
 

@@ -1,5 +1,5 @@
 -- A phase, as the object keeps it.
-use Rattle.std.proofs.Common.{◌≡◌, ◌≢◌, ℕ, List, Option, Some, None, slice_get, refl, sym, ap, ◌∙◌}
+use Rattle.std.proofs.Common.{◌≡◌, ◌≢◌, ◌⊎◌, inl, inr, ℕ, List, [], ◌∷◌, ◌++◌, Option, Some, None, slice_get, refl, sym, ap, subst, ◌∙◌}
 use Rattle.std.specs.Option.{option_map, option_and_then}
 use Rattle.values.specs.declared.code.Code.{Code}
 use Rattle.values.specs.declared.plan.Kind.{Kind}
@@ -15,6 +15,7 @@ use Rattle.plain_evaluation.specs.Written.{Written, place_of, written}
 use Rattle.plan_meaning.specs.Layout.{rows_of, places_of, node_of}
 use Rattle.plan_meaning.proofs.Rows.{map_at, at_map}
 use Rattle.run_meaning.specs.Opened.{Opened}
+use Rattle.run_meaning.specs.Words.{In}
 use Rattle.run_meaning.specs.Merge.{last_run}
 use Rattle.run_meaning.specs.Phase.{Phase}
 use Rattle.run_history.specs.Going.{Start, Going, just_opened}
@@ -26,6 +27,14 @@ use Rattle.still_graph.specs.Stands.{start_with, IsRunning, IsAtRest, IsStill}
 
 -- ---- calls
 
+in_either : (e : Noted) (xs ys : List Noted) → In e (xs ++ ys) → In e xs ⊎ In e ys
+in_either e [] ys here = inr here
+in_either e (x ∷ xs) ys (inl here) = inl (inl here)
+in_either e (x ∷ xs) ys (inr later) = elim (in_either e xs ys later) [
+  | inl before ↦ inl (inr before)
+  | inr after ↦ inr after
+]
+
 -- from whatever went before, the call takes the phase from the one graph to the other
 abbrev pub CallsOn : Opened → GraphState → GraphState → ℕ → Call → Type 0
 CallsOn o old new pass call = (ran : ℕ → Option Code) (g : Going) → IsOnWay (start_with ran o) g old → (block : List Noted) × (h : Going) × Calls (start_with ran o) g block h pass call × IsOnWay (start_with ran o) h new
@@ -33,7 +42,15 @@ CallsOn o old new pass call = (ran : ℕ → Option Code) (g : Going) → IsOnWa
 pub goes_on : (o : Opened) (pass : ℕ) (call : Call) (old new : GraphState) → CallsOn o old new pass call → IsRunning o old → IsRunning o new
 goes_on o pass call old new calls runs =
     let one = calls runs.ran runs.going runs.way in
-    record { ran = runs.ran; going = one.1; way = one.3 }
+    record {
+      ran = runs.ran;
+      going = one.1;
+      way = one.3;
+      of_plan = λ e here. elim (in_either e runs.going.entries one.0 (subst (In e) one.2.0.entries here)) [
+        | inl before ↦ runs.of_plan e before
+        | inr now ↦ one.2.0.of_plan e now
+      ];
+    }
 
 -- ---- a phase opens
 
@@ -76,4 +93,4 @@ pub opens_alone : (x : StillState) (room : ℕ) → IsStill x room → IsAtRest 
 opens_alone x room still rest = opens_with x room (start_with (ran_now x.graph) (opened_in x)) still rest (sym still.plan) refl refl (λ n node row at_node at_row effect did. ap (option_map (λ (r : rows.Opened). unpacked r.code)) at_row)
 
 pub runs_first : (o : Opened) (ran : ℕ → Option Code) (graph : GraphState) → IsOnWay (start_with ran o) just_opened graph → IsRunning o graph
-runs_first o ran graph way = record { ran = ran; going = just_opened; way = way }
+runs_first o ran graph way = record { ran = ran; going = just_opened; way = way; of_plan = λ e here. absurd here }

@@ -1,5 +1,6 @@
 -- What the calls answer.
 use Rattle.std.specs.Prelude.{ℕ, List, [], map}
+use Rattle.load_meaning.specs.declared.late.Late.{Late}
 use Rattle.run_meaning.specs.Opened.{Target as Target-Meant, at_row, at_none, at_dead}
 use Rattle.still_graph.specs.declared.still.Target.{Target}
 use Rattle.still_graph.specs.declared.still.Target.TheVariants as target
@@ -11,7 +12,10 @@ target_of (target.Row row) = at_row row
 target_of target.NoRow = at_none
 target_of (target.Dead owner) = at_dead owner
 
--- the loads that a settling says are pending
+-- the loads that a settling says are pending, with why
+abbrev pub late_of : Settled → List (ℕ × Late)
+late_of settled.Whole = []
+late_of (settled.Waiting pending) = pending
+
 abbrev pub ids_of : Settled → List ℕ
-ids_of settled.Whole = []
-ids_of (settled.Waiting pending) = map (λ p. p.0) pending
+ids_of settled = map (λ l. l.0) (late_of settled)

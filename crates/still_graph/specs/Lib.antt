@@ -2,8 +2,7 @@ pub mod Journal
 pub mod Still
 pub mod Settling
 pub mod Stands
+pub mod Finishing
 pub mod Loads
 pub mod Answers
-pub mod Sources
-pub mod Next
 pub mod Worked

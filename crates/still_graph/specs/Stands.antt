@@ -1,6 +1,7 @@
 -- What holds of a graph at each stage.
-use Rattle.std.specs.Prelude.{◌≡◌, ◌≢◌, ◌<◌, ℕ, true, false, List, [], ◌∷◌, ◌++◌, slice_get, Some, None, Option}
+use Rattle.std.specs.Prelude.{◌≡◌, ◌≢◌, ◌⊎◌, ◌<◌, ℕ, true, false, List, [], ◌∷◌, ◌++◌, slice_get, Some, None, Option}
 use Rattle.values.specs.declared.plan.Kind.TheVariants as kind
+use Rattle.values.specs.declared.plan.Noted.{Noted}
 use Rattle.values.specs.declared.plan.PlanNode.{PlanNode}
 use Rattle.values.specs.declared.code.Code.{Code}
 use Rattle.values.specs.Packing.{unpacked}
@@ -9,31 +10,39 @@ use Rattle.component_items.specs.declared.component.Component.{Component}
 use Rattle.component_items.specs.Kept.{IsKept}
 use Rattle.sources.specs.declared.opening.Opened as rows
 use Rattle.store_fields.specs.declared.edit.Verdict.{Verdict}
-use Rattle.plain_evaluation.specs.Held.{Held, value_held, first_held}
+use Rattle.async_derived.specs.declared.loading.Loading.{Loading}
+use Rattle.plain_evaluation.specs.Held.{Held, arrived_held}
 use Rattle.plain_evaluation.specs.Place.{Place}
 use Rattle.plain_evaluation.specs.Written.{state_of, written}
 use Rattle.plan_meaning.specs.Layout.{places_of, plan_of}
 use Rattle.plan_meaning.specs.Values.{row_values}
 use Rattle.held_state.specs.State.{HeldState, IsOf}
+use Rattle.load_table.specs.Loads.{LoadOf, loads_in, is_live_load}
+use Rattle.load_meaning.specs.Polls.{AreInStep, key_of}
+use Rattle.load_polls.specs.Shown.{SourcesShow}
 use Rattle.run_items.specs.Journal.{JournalPhase}
+use Rattle.run_meaning.specs.Words.{In}
 use Rattle.run_meaning.specs.Opened.{Opened}
-use Rattle.run_history.specs.Going.{Start, Going}
+use Rattle.run_meaning.specs.Phase.{IsOfPlan}
+use Rattle.run_history.specs.Going.{Start, Going, opened_at}
 use Rattle.phase_graph.specs.Graph.{GraphState}
 use Rattle.phase_graph.specs.Way.{IsOnWay}
-use Rattle.still_graph.specs.Still.{StillState, opened_in, ended}
+use Rattle.still_graph.specs.Still.{StillState, progress_of, opened_in, ended}
 use Rattle.still_graph.specs.declared.still.Stage.{Stage}
 use Rattle.still_graph.specs.declared.still.Stage.TheVariants.{Made, Settled, Open, Ended}
 
 -- the graph of a component in held state
-abbrev pub still_of : Component → HeldState → List Place → GraphState → List JournalPhase → Stage → List (List Verdict) → StillState
-still_of component state places graph journal stage verdicts = record { component = component; state = state; places = places; graph = graph; journal = journal; stage = stage; verdicts = verdicts }
+abbrev pub still_of : Component → HeldState → List Place → GraphState → List JournalPhase → Stage → List (List Verdict) → List Loading → StillState
+still_of component state places graph journal stage verdicts loadings = record { component = component; state = state; places = places; graph = graph; journal = journal; stage = stage; verdicts = verdicts; loadings = loadings }
+
+-- ---- loads
+
+-- where the key of a live load has arrived, it is the value of its key
+abbrev pub KeysStand : Component → Held → Type 0
+KeysStand component held = (place : ℕ) (load : LoadOf) → slice_get (loads_in component) place ≡ Some load → is_live_load component (state_of held) load ≡ true
+    → (arrived_held held load.id ≡ None) ⊎ (arrived_held held load.id ≡ Some (key_of component held load))
 
 -- ---- rows and held state
-
--- each signal has the value that held state gives it
-abbrev pub SignalsAreHeld : Held → List Place → GraphState → Type 0
-SignalsAreHeld held places graph = (n : ℕ) (node : PlanNode) (row : rows.Opened) (place : Place) → slice_get graph.plan.nodes n ≡ Some node → slice_get graph.rows n ≡ Some row → slice_get places n ≡ Some place
-    → node.kind ≡ kind.Signal → unpacked row.code ≡ value_held held place.id
 
 -- no memo and no effect ran yet
 abbrev pub NoneRan : GraphState → Type 0
@@ -54,6 +63,7 @@ pub record IsRunning (o : Opened) (graph : GraphState) : Type 0 where
   pub ran : ℕ → Option Code
   pub going : Going
   pub way : IsOnWay (start_with ran o) going graph
+  pub of_plan : (e : Noted) → In e going.entries → IsOfPlan (opened_at (start_with ran o)) e.fact
 
 -- such a phase has ended, and is the last of the journal
 pub record IsLast (o : Opened) (graph : GraphState) (journal : List JournalPhase) : Type 0 where
@@ -70,10 +80,8 @@ pub record IsLast (o : Opened) (graph : GraphState) (journal : List JournalPhase
 pub record IsMade (x : StillState) : Type 0 where
   pub journal : x.journal ≡ []
   pub closed : x.graph.is_open ≡ false
-  pub drawn : x.graph.drawn ≡ 0
-  pub first : x.state.held ≡ first_held x.component
   pub live : x.graph.live ≡ x.state.held.live
-  pub signals : SignalsAreHeld x.state.held x.places x.graph
+  pub shows : SourcesShow x.component (state_of x.state.held) x.graph.rows
   pub fresh : NoneRan x.graph
 
 pub record IsAtRest (x : StillState) : Type 0 where
@@ -97,4 +105,6 @@ pub record IsStill (x : StillState) (room : ℕ) : Type 0 where
   pub fits : IsOf x.component x.state
   pub places : x.places ≡ places_of (written x.component x.state.held)
   pub plan : x.graph.plan ≡ plan_of x.component (state_of x.state.held)
+  pub in_step : AreInStep x.component (progress_of x)
+  pub keys : KeysStand x.component x.state.held
   pub at_stage : StandsAt x.stage x room

@@ -6,7 +6,10 @@ use Rattle.values.specs.Packing.{unpacked}
 use Rattle.component_items.specs.declared.component.Component.{Component}
 use Rattle.sources.specs.declared.opening.Opened as rows
 use Rattle.store_fields.specs.declared.edit.Verdict.{Verdict}
+use Rattle.async_derived.specs.declared.loading.Loading.{Loading}
+use Rattle.plain_evaluation.specs.Held.{Held}
 use Rattle.plain_evaluation.specs.Place.{Place}
+use Rattle.load_meaning.specs.Polls.{Progress}
 use Rattle.held_state.specs.State.{HeldState}
 use Rattle.run_items.specs.Journal.{JournalPhase}
 use Rattle.run_meaning.specs.Opened.{Opened, opened_of}
@@ -31,6 +34,15 @@ pub record StillState : Type 0 where
   pub stage : Stage
   -- what came of the edits of the last phase that was settled, by pass
   pub verdicts : List (List Verdict)
+  -- how far each load of the component is, in order of declaration
+  pub loadings : List Loading
+
+-- how far the loads are, beside this held state
+abbrev pub progress_from : StillState → Held → Progress
+progress_from x held = record { held = held; loadings = x.loadings }
+
+abbrev pub progress_of : StillState → Progress
+progress_of x = progress_from x x.state.held
 
 -- what a phase opens with
 abbrev pub opened_in : StillState → Opened

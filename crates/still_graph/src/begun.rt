@@ -6,6 +6,8 @@ ghost use Rattle.plain_evaluation.specs.Place.{Place};
 ghost use Rattle.held_state.specs.State.{IsOf, first_state};
 ghost use Rattle.phase_graph.specs.Graph.{ticks_of};
 ghost use Rattle.id_owners.specs.Table.{owners_by_id};
+ghost use Rattle.load_table.specs.Loads.{loads_in};
+ghost use Rattle.load_meaning.specs.Polls.{first_loadings};
 ghost use Rattle.still_graph.specs.Stands.{still_of, IsStill};
 ghost use Rattle.still_graph.specs.declared.still.Stage.TheVariants.{Made};
 
@@ -13,6 +15,7 @@ use crate::journal::Journal;
 use component_items::Component;
 use held_state::Held;
 use id_owners::IdOwners;
+use load_polls::Loads;
 use node_names::Names;
 use node_plan::{Laid, lay_out};
 use phase_graph::Graph;
@@ -29,6 +32,7 @@ pub(crate) struct Begun {
     pub graph: Graph,
     pub journal: Journal,
     pub verdicts: Vec<Verdicts>,
+    pub loads: Loads,
 }
 
 impl Begun {
@@ -39,13 +43,16 @@ impl Begun {
         ensures ticks { IfOk result (λ begun. ticks_of begun.graph ≡ 0) }
         ensures owners { IfOk result (λ begun. begun.owners ≡ owners_by_id component.now) }
         ensures verdicts { IfOk result (λ begun. begun.verdicts.items ≡ []) }
-        ensures stands { IfOk result (λ begun. IsStill (still_of component.now begun.held begun.names begun.graph begun.journal.phases Made begun.verdicts.items) begun.journal.spare) }
+        ensures stands { IfOk result (λ begun. IsStill (still_of component.now begun.held begun.names begun.graph begun.journal.phases Made begun.verdicts.items begun.loads.loadings) begun.journal.spare) }
+        ensures loads { IfOk result (λ begun. begun.loads.loads ≡ loads_in component.now) }
+        ensures loadings { IfOk result (λ begun. begun.loads.loadings ≡ first_loadings component.now) }
     {
         let held = first_held(alloc, component)?;
         let Laid { plan, names } = lay_out(alloc, component, &held)?;
         let codes = codes_of(alloc, &held, &names)?;
         let live = vec![in alloc; true; plan.owners.len()]?;
         let graph = Graph::new(alloc, plan, live, codes.as_slice())?;
+        let loads = Loads::new(alloc, component)?;
         Ok(Begun {
             owners: IdOwners::new(alloc, component)?,
             held,
@@ -53,6 +60,7 @@ impl Begun {
             graph,
             journal: Journal::new(alloc),
             verdicts: Vec::new(alloc),
+            loads,
         })
     }
 }

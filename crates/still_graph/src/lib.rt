@@ -2,17 +2,18 @@
 #![tactic(auto)]
 
 mod begun;
+mod finishing;
 mod journal;
 mod loads;
-mod making;
 mod phases;
-mod putting;
 mod settling;
 mod still;
+mod ways;
 
 pub use journal::Journal;
+pub use load_polls::{Late, Pending};
 pub use loads::has_load;
-pub use settling::{Late, Pending, Settled};
+pub use settling::Settled;
 pub use still::{Stage, Still, Target};
 
 #[cfg(test)]

@@ -6,10 +6,11 @@ ghost use Rattle.plain_evaluation.specs.Changed.{store_of};
 ghost use Rattle.values.specs.Packing.{unpacked};
 ghost use Rattle.component_items.specs.Kept.{IsKept};
 ghost use Rattle.held_state.specs.State.{IsOf, first_state};
+ghost use Rattle.load_meaning.specs.Polls.{AreInStep, first_loadings};
 ghost use Rattle.plain_evaluation.specs.Written.{state_of};
 ghost use Rattle.plan_meaning.specs.Layout.{plan_of};
 ghost use Rattle.phase_graph.specs.Graph.{ticks_of};
-ghost use Rattle.still_graph.specs.Still.{opened_in};
+ghost use Rattle.still_graph.specs.Still.{progress_of, opened_in};
 ghost use Rattle.still_graph.specs.Answers.{target_of};
 
 use crate::begun::Begun;
@@ -17,6 +18,7 @@ use crate::journal::Journal;
 use component_items::Component;
 use held_state::Held;
 use id_owners::IdOwners;
+use load_polls::Loads;
 use node_names::{Names, NodePlace};
 use phase_graph::Graph;
 use sources::{Body, Colour};
@@ -50,7 +52,7 @@ pub enum Target {
 }
 
 /// The graph of a component. Contracts see the component, its held state, the rows of its plan with their places, the
-/// journal, and how far it is.
+/// journal, how far it is, and how far its loads are.
 #[derive(Drop)]
 pub struct Still {
     pub(crate) component: Component,
@@ -61,6 +63,7 @@ pub struct Still {
     pub(crate) journal: Journal,
     pub(crate) stage: Stage,
     pub(crate) verdicts: Vec<Verdicts>,
+    pub(crate) loads: Loads,
 }
 
 impl Model for Still {
@@ -70,6 +73,7 @@ impl Model for Still {
     ghost use Rattle.held_state.specs.contracts.held.Held as held_model;
     ghost use Rattle.phase_graph.specs.contracts.graph.Graph as graph_model;
     ghost use Rattle.id_owners.specs.Table.{owners_by_id};
+    ghost use Rattle.load_table.specs.Loads.{loads_in};
     ghost use Rattle.still_graph.specs.Still.{StillState};
     ghost use Rattle.still_graph.specs.Stands.{still_of, IsStill};
 
@@ -77,9 +81,9 @@ impl Model for Still {
 
     ghost coded = { Prim.hlevel (codes, parts_model.the_row.coded, held_model.the_row.coded, graph_model.the_row.coded) };
 
-    ghost view = { λ s. still_of s.component s.held s.names s.graph s.journal.phases s.stage s.verdicts.items };
+    ghost view = { λ s. still_of s.component s.held s.names s.graph s.journal.phases s.stage s.verdicts.items s.loads.loadings };
 
-    ghost invariant = { λ s. IsStill (still_of s.component s.held s.names s.graph s.journal.phases s.stage s.verdicts.items) s.journal.spare × (s.owners ≡ owners_by_id s.component) };
+    ghost invariant = { λ s. IsStill (still_of s.component s.held s.names s.graph s.journal.phases s.stage s.verdicts.items s.loads.loadings) s.journal.spare × (s.owners ≡ owners_by_id s.component) × (s.loads.loads ≡ loads_in s.component) };
 }
 
 impl Still {
@@ -90,6 +94,7 @@ impl Still {
         ensures journal { IfOk result (λ still. still.journal ≡ []) }
         ensures stage { IfOk result (λ still. still.stage ≡ Stage.Made) }
         ensures verdicts { IfOk result (λ still. still.verdicts ≡ []) }
+        ensures loadings { IfOk result (λ still. still.loadings ≡ first_loadings component) }
         ensures ticks { IfOk result (λ still. ticks_of still.graph ≡ 0) }
         ensures back { IfErr result (λ back. back.0 ≡ component) }
     {
@@ -111,6 +116,7 @@ impl Still {
     pub fn held(&self) -> &Held
         ensures state { result.now ≡ self.now.state }
         ensures fits { IsOf self.now.component self.now.state }
+        ensures in_step { AreInStep self.now.component (progress_of self.now) }
     {
         &self.held
     }
@@ -229,14 +235,16 @@ impl Still {
 
 impl Still {
     ghost use Rattle.id_owners.specs.Table.{owners_by_id};
+    ghost use Rattle.load_table.specs.Loads.{loads_in};
     ghost use Rattle.still_graph.specs.Stands.{still_of, IsStill};
     ghost use Rattle.still_graph.specs.declared.still.Stage.TheVariants.{Made};
 
     /// The graph of these parts.
     fn of(component: Component, begun: Begun) -> Still
-        requires stands { IsStill (still_of component begun.held begun.names begun.graph begun.journal.phases Made begun.verdicts.items) begun.journal.spare }
+        requires stands { IsStill (still_of component begun.held begun.names begun.graph begun.journal.phases Made begun.verdicts.items begun.loads.loadings) begun.journal.spare }
         requires owners { begun.owners ≡ owners_by_id component }
-        ensures { result ≡ still_of component begun.held begun.names begun.graph begun.journal.phases Made begun.verdicts.items }
+        requires loads { begun.loads.loads ≡ loads_in component }
+        ensures { result ≡ still_of component begun.held begun.names begun.graph begun.journal.phases Made begun.verdicts.items begun.loads.loadings }
     {
         let Begun {
             owners,
@@ -245,6 +253,7 @@ impl Still {
             graph,
             journal,
             verdicts,
+            loads,
         } = begun;
         Still {
             component,
@@ -255,6 +264,7 @@ impl Still {
             journal,
             stage: Stage::Made,
             verdicts,
+            loads,
         }
     }
 }

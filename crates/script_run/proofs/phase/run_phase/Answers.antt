@@ -24,12 +24,12 @@ use Rattle.script_run.proofs.phase.run_phase.Goals as goal
 
 pub make_phase-requires-clause-fits : goal.make_phase-requires-clause-fits
 make_phase-requires-clause-fits g c κs within =
-    let to = c.requires.so_far.to in
+    let to = c.requires.so_far.1.to in
     (run_held c.args.ran.now.still.component c.requires.kept to.keys to.steps c.args.ran.now.still.state.held to.runs).fits
 
 pub make_phase-requires-clause-owners : goal.make_phase-requires-clause-owners
 make_phase-requires-clause-owners g c κs within =
-    let to = c.requires.so_far.to in
+    let to = c.requires.so_far.1.to in
     (run_owners c.args.ran.now.still.component c.requires.kept to.keys to.steps c.args.ran.now.still.state.held to.runs).long
 
 pub make_phase-requires-clause-named : goal.make_phase-requires-clause-named
@@ -42,17 +42,17 @@ make_phase-requires-clause-today g c κs within =
 
 pub tell_edits-requires-clause-within : goal.tell_edits-requires-clause-within
 tell_edits-requires-clause-within g c =
-    let to = c.requires.so_far.to in
+    let to = c.requires.so_far.1.to in
     let fits = past_fits c.args.ran.now.still.component c.requires.kept to.keys to.steps c.args.ran.now.still.state.held to.runs in
-    let made = c.in_ok-make_phase.ensures.made (phases_of to.steps) c.requires.so_far.settled fits in
+    let made = c.in_ok-make_phase.ensures.made (phases_of to.steps) c.requires.so_far.1.settled fits in
     let long = ap length made.2 ∙ length-append c.args.ran.now.answers (answers_of_lanes (c.args.before + 1) 1 made.0.lanes) in
     omega (arith, long, c.len-first.ensures)
 
 pub tell_edits-requires-clause-few : goal.tell_edits-requires-clause-few
 tell_edits-requires-clause-few g c =
-    let to = c.requires.so_far.to in
+    let to = c.requires.so_far.1.to in
     let fits = past_fits c.args.ran.now.still.component c.requires.kept to.keys to.steps c.args.ran.now.still.state.held to.runs in
-    let made = c.in_ok-make_phase.ensures.made (phases_of to.steps) c.requires.so_far.settled fits in
+    let made = c.in_ok-make_phase.ensures.made (phases_of to.steps) c.requires.so_far.1.settled fits in
     let long = ap length made.2 ∙ length-append c.args.ran.now.answers (answers_of_lanes (c.args.before + 1) 1 made.0.lanes) in
     let run : LanesRun (lanes_at c.args.script.now (c.args.before + 1)) = subst LanesRun (sym (lanes_behind c.args.script.now c.args.before)) (c.requires.today.phases c.args.before [] c.requires.within) in
     let few = few_answers (c.args.before + 1) made.0.lanes (lanes_at c.args.script.now (c.args.before + 1)) made.1.ops_are run in
@@ -60,9 +60,9 @@ tell_edits-requires-clause-few g c =
 
 pub answers_behind-answers-requires : goal.answers_behind-answers-requires
 answers_behind-answers-requires g c =
-    let to = c.requires.so_far.to in
+    let to = c.requires.so_far.1.to in
     let fits = past_fits c.args.ran.now.still.component c.requires.kept to.keys to.steps c.args.ran.now.still.state.held to.runs in
-    let made = c.in_ok-make_phase.ensures.made (phases_of to.steps) c.requires.so_far.settled fits in
+    let made = c.in_ok-make_phase.ensures.made (phases_of to.steps) c.requires.so_far.1.settled fits in
     let came : List Answer = answers_of_lanes (c.args.before + 1) 1 made.0.lanes in
     let vs : List Verdict = first_verdicts c.settle_rounds.new.still.verdicts in
     let told_now = told_behind c.args.ran.now.answers c.make_phase.new.answers came c.tell_edits.new.answers vs c.len-first.result c.len-first.ensures made.2 c.tell_edits.ensures in
@@ -71,21 +71,21 @@ answers_behind-answers-requires g c =
 
 pub settle_rounds-requires-clause-closed : goal.settle_rounds-requires-clause-closed
 settle_rounds-requires-clause-closed g c =
-    let to = c.requires.so_far.to in
+    let to = c.requires.so_far.1.to in
     let fits = past_fits c.args.ran.now.still.component c.requires.kept to.keys to.steps c.args.ran.now.still.state.held to.runs in
-    let made = c.in_ok-make_phase.ensures.made (phases_of to.steps) c.requires.so_far.settled fits in
+    let made = c.in_ok-make_phase.ensures.made (phases_of to.steps) c.requires.so_far.1.settled fits in
     not_open c.make_phase.new.still.stage made.1.ended.stage
 
 pub returns-clause-goes_on : goal.returns-clause-goes_on
-returns-clause-goes_on g c =
+returns-clause-goes_on g c = λ faults not_yets so_far.
     let component : Component = c.args.ran.now.still.component in
     let script : List (List (List ScriptOp)) = c.args.script.now in
     let old : Ran = c.args.ran.now in
     let new : Ran = record { still = c.settle_rounds.new.still; answers = c.tell_edits.new.answers; report = c.put_lines.new.out; pending = c.in_ok-ran.field-0 } in
-    let to = c.requires.so_far.to in
+    let to = so_far.to in
     let past : List Phase = phases_of to.steps in
     let fits = past_fits component c.requires.kept to.keys to.steps old.still.state.held to.runs in
-    let made = c.in_ok-make_phase.ensures.made past c.requires.so_far.settled fits in
+    let made = c.in_ok-make_phase.ensures.made past so_far.settled fits in
     let p : Phase = made.0 in
     let many : length past ≡ c.args.before = as_many past script c.args.before c.requires.within to.script_is in
     let same : c.make_phase.new.still.component ≡ component = c.in_ok-make_phase.ensures.component in
@@ -102,4 +102,5 @@ returns-clause-goes_on g c =
     let owners : p.opened.plan.owners ≡ plan_owners c.settle_rounds.new.still.component = ap (λ (o : Opened). o.plan.owners) made.1.opened ∙ ap plan_owners (sym is_component) in
     let lines : new.report.items ≡ old.report.items ++ lines_if c.args.asked component.texts (c.args.before + 1) (told p) =
     same_lines c.args.asked c.settle_rounds.new.still.component component (c.args.before + 1) (told p) old.report.items new.report.items (c.in_ok-put_lines.ensures past (told p) settled.2 owners here behind) is_component in
-    runs_on component script c.args.asked c.args.before old new c.make_phase.new.still p c.requires.within c.requires.so_far made.1 same settles told_now lines c.in_ok-ran.ensures.pending
+    runs_on component script c.args.asked c.args.rounds c.args.before old new c.make_phase.new.still p faults (g.L.Loader.faults c.args.loader.now) (g.L.Loader.faults c.settle_rounds.new.loader) not_yets (g.L.Loader.not_yets c.args.loader.now) (g.L.Loader.not_yets c.settle_rounds.new.loader)
+    c.requires.within so_far made.1 same settles told_now lines c.in_ok-ran.ensures.pending c.in_ok-ran.ensures.counted

@@ -23,8 +23,10 @@ returns-clause-stands c =
     let names = c.in_ok-plan.ensures.names ∙ ap (λ (h : HeldState). places_of (written component h.held)) first in
     let plan = c.in_ok-graph.ensures.plan ∙ c.in_ok-plan.ensures.plan ∙ ap (λ (h : HeldState). plan_of component (state_of h.held)) first in
     let codes = c.as_slice.ensures.value ∙ c.in_ok-codes.ensures ∙ ap (λ (h : HeldState). map (λ (p : Place). value_held h.held p.id) c.in_ok-plan.field-0.names) first in
-    begins component c.first_held.ensures.kept c.in_ok-plan.field-0.names c.in_ok-graph.graph names plan c.in_ok-held.held c.new-3.result.phases c.new-4.result.items c.new-3.result.spare c.in_ok-live.live.items first c.new-3.ensures
-    (c.in_ok-live.ensures.items_if_clones_equal (λ y is. is) ∙ ap (λ n. replicate n true) c.len.ensures ∙ ap (λ (p : Plan). replicate (length p.owners) true) (sym c.in_ok-graph.ensures.plan))
-    c.in_ok-graph.ensures.live c.in_ok-graph.ensures.«open» c.in_ok-graph.ensures.drawn
+    begins component c.first_held.ensures.kept c.in_ok-plan.field-0.names c.in_ok-graph.graph names plan
+    (c.in_ok-graph.ensures.paired ∙ ap (λ (p : Plan). length p.nodes) (sym c.in_ok-graph.ensures.plan))
     (λ n node row a b k. ap (λ (cs : List Code). slice_get cs n) (sym codes) ∙ c.in_ok-graph.ensures.sources n node row (ap (λ (p : Plan). slice_get p.nodes n) (sym c.in_ok-graph.ensures.plan) ∙ a) b k)
+    c.in_ok-held.held c.new-4.result.phases c.new-5.result.items c.new-4.result.spare c.in_ok-live.live.items c.in_ok-loads.loads.loadings first c.new-4.ensures
+    (c.in_ok-live.ensures.items_if_clones_equal (λ y is. is) ∙ ap (λ n. replicate n true) c.len.ensures ∙ ap (λ (p : Plan). replicate (length p.owners) true) (sym c.in_ok-graph.ensures.plan))
+    c.in_ok-graph.ensures.live c.in_ok-graph.ensures.«open» c.in_ok-loads.ensures.loadings
     (λ n node row a b k. c.in_ok-graph.ensures.derived n node row (ap (λ (p : Plan). slice_get p.nodes n) (sym c.in_ok-graph.ensures.plan) ∙ a) b k)

@@ -1,70 +1,34 @@
-use Rattle.std.proofs.Common.{◌≡◌, ◌<◌, ◌≤◌, ◌^◌, ◌++◌, ◌∷◌, [], List, ℕ, false, length, slice_get, sym, ap, subst, ◌∙◌, arith}
-use Rattle.std.specs.Prelude.{IsSomeAnd}
-use Rattle.values.specs.declared.code.Code.{Code}
-use Rattle.values.specs.PlanValues.{is_derived}
+use Rattle.std.proofs.Common.{◌≡◌, ◌≢◌, ◌<◌, ◌≤◌, ◌^◌, ◌++◌, ◌∷◌, [], List, true, length, refl, sym, ap, subst, ◌∙◌, arith}
+use Rattle.load_table.specs.Loads.{LoadOf, loads_in}
 use Rattle.run_items.specs.Journal.{JournalPhase}
-use Rattle.phase_graph.specs.Graph.{GraphState, ticks_of}
-use Rattle.still_graph.specs.Loads.{has_load}
-use Rattle.still_graph.specs.Next.{IsNext}
-use Rattle.still_graph.specs.Sources.{ArePut}
+use Rattle.phase_graph.specs.Graph.{ticks_of}
+use Rattle.next_layout.specs.Next.{IsFolded, IsNext}
 use Rattle.still_graph.specs.Still.{StillState}
 use Rattle.still_graph.proofs.After.{closed}
-use Rattle.still_graph.proofs.WentOver.{goes, sources_first, few, went_over, went_settles}
+use Rattle.still_graph.proofs.Finished.{finished_still, finished_settles}
+use Rattle.still_graph.proofs.WentOver.{laid_out, ready_over, midway_over}
 use Rattle.still_graph.proofs.still.Still.go_over.Goals as goal
 
-pub relay-requires-clause-closed : goal.relay-requires-clause-closed
-relay-requires-clause-closed c = closed _ c.self.inside.journal.spare c.self.invariant.0 (ap (λ (x : StillState). x.stage) c.self.view_is ∙ c.requires.ended)
+pub take_over-requires-clause-closed : goal.take_over-requires-clause-closed
+take_over-requires-clause-closed g c = closed _ c.self.inside.journal.spare c.self.invariant.0 (ap (λ (x : StillState). x.stage) c.self.view_is ∙ c.requires.ended)
 
-pub relay-requires-clause-ticks : goal.relay-requires-clause-ticks
-relay-requires-clause-ticks c = subst (λ (x : StillState). ticks_of x.graph < 2 ^ 62) (sym c.self.view_is) c.requires.ticks
+pub take_over-requires-clause-ticks : goal.take_over-requires-clause-ticks
+take_over-requires-clause-ticks g c = subst (λ (x : StillState). ticks_of x.graph < 2 ^ 62) (sym c.self.view_is) c.requires.ticks
 
-pub relay-requires-clause-goes : goal.relay-requires-clause-goes
-relay-requires-clause-goes c = goes _ c.self.inside.journal.spare c.self.invariant.0 (ap (λ (x : StillState). x.stage) c.self.view_is ∙ c.requires.ended) (ap (λ (x : StillState). has_load x.component.items) c.self.view_is ∙ c.requires.no_loads) c.plan-plan.ensures.paired c.args.next (subst (λ (x : StillState). (earlier : List JournalPhase) (phase : JournalPhase) → x.journal ≡ earlier ++ phase ∷ [] → IsNext x.component x.state x.places x.graph phase.entries c.args.next) (sym c.self.view_is) c.requires.next)
+pub take_over-requires-clause-ready : goal.take_over-requires-clause-ready
+take_over-requires-clause-ready g c = record { component = c.self.inside.component; laid = laid_out _ c.self.inside.journal.spare c.self.invariant.0; is_next = subst (λ (x : StillState). IsNext x.component x.state x.places x.graph c.args.next) (sym c.self.view_is) c.requires.is_next }
 
-pub put_sources-requires-clause-closed : goal.put_sources-requires-clause-closed
-put_sources-requires-clause-closed c = c.relay.ensures.closed
+pub finish-requires-clause-ready : goal.finish-requires-clause-ready
+finish-requires-clause-ready g c = ready_over _ c.self.inside.journal.spare c.self.invariant.0 (ap (λ (x : StillState). x.stage) c.self.view_is ∙ c.requires.ended) c.plan-plan.ensures.paired c.args.next (subst (λ (x : StillState). (earlier : List JournalPhase) (phase : JournalPhase) → x.journal ≡ earlier ++ phase ∷ [] → IsFolded x.component x.state x.places x.graph phase.entries c.args.next.state c.args.next.verdicts) (sym c.self.view_is) c.requires.folded) (subst (λ (x : StillState). IsNext x.component x.state x.places x.graph c.args.next) (sym c.self.view_is) c.requires.is_next) c.take_over.new.held c.take_over.ensures.held c.take_over.new.names c.take_over.new.graph (c.take_over.ensures.over _ (laid_out _ c.self.inside.journal.spare c.self.invariant.0) (subst (λ (x : StillState). IsNext x.component x.state x.places x.graph c.args.next) (sym c.self.view_is) c.requires.is_next)) c.take_over.new.verdicts.items c.take_over.ensures.verdicts c.self.inside.loads c.self.invariant.2 refl (subst (λ (x : StillState). ticks_of x.graph < 2 ^ 62) (sym c.self.view_is) c.requires.ticks)
 
-pub put_sources-requires-clause-drawn : goal.put_sources-requires-clause-drawn
-put_sources-requires-clause-drawn c = c.relay.ensures.drawn
-
-pub put_sources-requires-clause-few : goal.put_sources-requires-clause-few
-put_sources-requires-clause-few c = subst (λ (codes : List Code). length codes ≤ 4096) (sym c.as_slice.ensures.value) (few _ c.self.inside.journal.spare c.self.invariant.0 (ap (λ (x : StillState). x.stage) c.self.view_is ∙ c.requires.ended) (ap (λ (x : StillState). has_load x.component.items) c.self.view_is ∙ c.requires.no_loads) c.plan-plan.ensures.paired c.args.next (subst (λ (x : StillState). (earlier : List JournalPhase) (phase : JournalPhase) → x.journal ≡ earlier ++ phase ∷ [] → IsNext x.component x.state x.places x.graph phase.entries c.args.next) (sym c.self.view_is) c.requires.next))
-
-pub put_sources-requires-clause-ticks : goal.put_sources-requires-clause-ticks
-put_sources-requires-clause-ticks c =
-    let t : ticks_of c.self.inside.graph < 2 ^ 62 = subst (λ (x : StillState). ticks_of x.graph < 2 ^ 62) (sym c.self.view_is) c.requires.ticks in
-    let b = c.relay.ensures.base in
-    omega arith
-
-pub put_sources-requires-clause-sources : goal.put_sources-requires-clause-sources
-put_sources-requires-clause-sources c = subst (λ (codes : List Code). (n : ℕ) → n < length codes → IsSomeAnd (slice_get c.relay.new.self.plan.nodes n) (λ node. is_derived node.kind ≡ false)) (sym c.as_slice.ensures.value) (sources_first _ c.self.inside.journal.spare c.self.invariant.0 (ap (λ (x : StillState). x.stage) c.self.view_is ∙ c.requires.ended) (ap (λ (x : StillState). has_load x.component.items) c.self.view_is ∙ c.requires.no_loads) c.plan-plan.ensures.paired c.args.next (subst (λ (x : StillState). (earlier : List JournalPhase) (phase : JournalPhase) → x.journal ≡ earlier ++ phase ∷ [] → IsNext x.component x.state x.places x.graph phase.entries c.args.next) (sym c.self.view_is) c.requires.next) c.relay.new.self.plan c.relay.ensures.plan)
-
-pub settle-requires-clause-closed : goal.settle-requires-clause-closed
-settle-requires-clause-closed c = ap (λ (g : GraphState). g.is_open) c.put_sources.ensures.rest ∙ c.relay.ensures.closed
-
-pub settle-requires-clause-few : goal.settle-requires-clause-few
-settle-requires-clause-few c =
-    let a = c.put_sources.ensures.few in
-    let b = c.relay.ensures.drawn in
-    let d : length c.as_slice.result.now ≤ 4096 = subst (λ (codes : List Code). length codes ≤ 4096) (sym c.as_slice.ensures.value) (few _ c.self.inside.journal.spare c.self.invariant.0 (ap (λ (x : StillState). x.stage) c.self.view_is ∙ c.requires.ended) (ap (λ (x : StillState). has_load x.component.items) c.self.view_is ∙ c.requires.no_loads) c.plan-plan.ensures.paired c.args.next (subst (λ (x : StillState). (earlier : List JournalPhase) (phase : JournalPhase) → x.journal ≡ earlier ++ phase ∷ [] → IsNext x.component x.state x.places x.graph phase.entries c.args.next) (sym c.self.view_is) c.requires.next)) in
-    omega arith
-
-pub settle-requires-clause-ticks : goal.settle-requires-clause-ticks
-settle-requires-clause-ticks c =
-    let t : ticks_of c.self.inside.graph < 2 ^ 62 = subst (λ (x : StillState). ticks_of x.graph < 2 ^ 62) (sym c.self.view_is) c.requires.ticks in
-    let a : c.put_sources.new.graph.base ≡ c.relay.new.self.base = ap (λ (g : GraphState). g.base) c.put_sources.ensures.rest in
-    let b = c.relay.ensures.base in
+pub finish-requires-clause-room : goal.finish-requires-clause-room
+finish-requires-clause-room g c =
+    let same = ap (λ (ls : List LoadOf). length ls) (c.self.invariant.2 ∙ ap (λ (x : StillState). loads_in x.component) c.self.view_is) in
+    let room = c.requires.room in
     omega arith
 
 pub invariant_of-self : goal.invariant_of-self
-invariant_of-self c = (
-  went_over _ c.self.inside.journal.spare c.self.invariant.0 (ap (λ (x : StillState). x.stage) c.self.view_is ∙ c.requires.ended) (ap (λ (x : StillState). has_load x.component.items) c.self.view_is ∙ c.requires.no_loads) c.plan-plan.ensures.paired c.args.next (subst (λ (x : StillState). (earlier : List JournalPhase) (phase : JournalPhase) → x.journal ≡ earlier ++ phase ∷ [] → IsNext x.component x.state x.places x.graph phase.entries c.args.next) (sym c.self.view_is) c.requires.next)
-      c.relay.new.self c.relay.ensures.plan c.relay.ensures.live c.relay.ensures.closed c.relay.ensures.base c.relay.ensures.drawn c.relay.ensures.rows c.put_sources.new.graph (subst (λ (codes : List Code). ArePut codes (length codes) c.relay.new.self c.put_sources.new.graph) c.as_slice.ensures.value c.put_sources.ensures) c.settle.new.self c.settle.ensures.rest (record { plan = ap (λ (g : GraphState). g.plan) c.settle.ensures.rest; memos = λ n node row a b k. (c.settle.ensures.memos n node row a b k).1; sources = c.settle.ensures.sources }) c.settle.ensures.effects,
-  c.self.invariant.1,
-)
+invariant_of-self g c = (finished_still _ _ _ c.self.inside.journal.spare c.self.invariant.0 c.take_over.new.held c.take_over.new.names c.take_over.new.graph c.take_over.new.verdicts.items c.self.inside.loads (ready_over _ c.self.inside.journal.spare c.self.invariant.0 (ap (λ (x : StillState). x.stage) c.self.view_is ∙ c.requires.ended) c.plan-plan.ensures.paired c.args.next (subst (λ (x : StillState). (earlier : List JournalPhase) (phase : JournalPhase) → x.journal ≡ earlier ++ phase ∷ [] → IsFolded x.component x.state x.places x.graph phase.entries c.args.next.state c.args.next.verdicts) (sym c.self.view_is) c.requires.folded) (subst (λ (x : StillState). IsNext x.component x.state x.places x.graph c.args.next) (sym c.self.view_is) c.requires.is_next) c.take_over.new.held c.take_over.ensures.held c.take_over.new.names c.take_over.new.graph (c.take_over.ensures.over _ (laid_out _ c.self.inside.journal.spare c.self.invariant.0) (subst (λ (x : StillState). IsNext x.component x.state x.places x.graph c.args.next) (sym c.self.view_is) c.requires.is_next)) c.take_over.new.verdicts.items c.take_over.ensures.verdicts c.self.inside.loads c.self.invariant.2 refl (subst (λ (x : StillState). ticks_of x.graph < 2 ^ 62) (sym c.self.view_is) c.requires.ticks)) refl c.finish.new.held c.finish.new.graph c.finish.new.loads c.finish.new.late.list _ _ c.finish.ensures.finished, c.self.invariant.1, (c.finish.ensures.finished.loads_are ∙ c.self.invariant.2))
 
-pub returns : goal.returns
-returns c =
-    went_settles _ c.self.inside.journal.spare c.self.invariant.0 (ap (λ (x : StillState). x.stage) c.self.view_is ∙ c.requires.ended) (ap (λ (x : StillState). has_load x.component.items) c.self.view_is ∙ c.requires.no_loads) c.plan-plan.ensures.paired c.args.next (subst (λ (x : StillState). (earlier : List JournalPhase) (phase : JournalPhase) → x.journal ≡ earlier ++ phase ∷ [] → IsNext x.component x.state x.places x.graph phase.entries c.args.next) (sym c.self.view_is) c.requires.next)
-    c.relay.new.self c.relay.ensures.plan c.relay.ensures.live c.relay.ensures.closed c.relay.ensures.base c.relay.ensures.drawn c.relay.ensures.rows c.put_sources.new.graph (subst (λ (codes : List Code). ArePut codes (length codes) c.relay.new.self c.put_sources.new.graph) c.as_slice.ensures.value c.put_sources.ensures) c.settle.new.self c.settle.ensures.rest (record { plan = ap (λ (g : GraphState). g.plan) c.settle.ensures.rest; memos = λ n node row a b k. (c.settle.ensures.memos n node row a b k).1; sources = c.settle.ensures.sources }) c.settle.ensures.effects
-    c.args.self.now c.self.view_is c.settle.ensures.ticks.1
+pub returns-clause-settles : goal.returns-clause-settles
+returns-clause-settles g c = finished_settles _ _ _ c.self.inside.journal.spare c.self.invariant.0 c.take_over.new.held c.take_over.new.names c.take_over.new.graph c.take_over.new.verdicts.items c.self.inside.loads (ready_over _ c.self.inside.journal.spare c.self.invariant.0 (ap (λ (x : StillState). x.stage) c.self.view_is ∙ c.requires.ended) c.plan-plan.ensures.paired c.args.next (subst (λ (x : StillState). (earlier : List JournalPhase) (phase : JournalPhase) → x.journal ≡ earlier ++ phase ∷ [] → IsFolded x.component x.state x.places x.graph phase.entries c.args.next.state c.args.next.verdicts) (sym c.self.view_is) c.requires.folded) (subst (λ (x : StillState). IsNext x.component x.state x.places x.graph c.args.next) (sym c.self.view_is) c.requires.is_next) c.take_over.new.held c.take_over.ensures.held c.take_over.new.names c.take_over.new.graph (c.take_over.ensures.over _ (laid_out _ c.self.inside.journal.spare c.self.invariant.0) (subst (λ (x : StillState). IsNext x.component x.state x.places x.graph c.args.next) (sym c.self.view_is) c.requires.is_next)) c.take_over.new.verdicts.items c.take_over.ensures.verdicts c.self.inside.loads c.self.invariant.2 refl (subst (λ (x : StillState). ticks_of x.graph < 2 ^ 62) (sym c.self.view_is) c.requires.ticks)) refl c.finish.new.held c.finish.new.graph c.finish.new.loads c.finish.new.late.list _ _ c.finish.ensures.finished (midway_over _ c.self.inside.journal.spare c.self.invariant.0 (ap (λ (x : StillState). x.stage) c.self.view_is ∙ c.requires.ended) c.plan-plan.ensures.paired c.args.next (subst (λ (x : StillState). (earlier : List JournalPhase) (phase : JournalPhase) → x.journal ≡ earlier ++ phase ∷ [] → IsFolded x.component x.state x.places x.graph phase.entries c.args.next.state c.args.next.verdicts) (sym c.self.view_is) c.requires.folded) (subst (λ (x : StillState). IsNext x.component x.state x.places x.graph c.args.next) (sym c.self.view_is) c.requires.is_next) c.take_over.new.held c.take_over.ensures.held c.take_over.new.names c.take_over.new.graph (c.take_over.ensures.over _ (laid_out _ c.self.inside.journal.spare c.self.invariant.0) (subst (λ (x : StillState). IsNext x.component x.state x.places x.graph c.args.next) (sym c.self.view_is) c.requires.is_next)) c.take_over.new.verdicts.items c.take_over.ensures.verdicts) c.args.self.now c.self.view_is

@@ -1,0 +1,9 @@
+pub mod Rows
+pub mod Alike
+pub mod Shown
+pub mod HeldLines
+pub mod SourceCodes
+pub mod SourcesPut
+pub mod Folds
+pub mod Gone
+pub mod InPlace

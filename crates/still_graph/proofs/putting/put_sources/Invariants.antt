@@ -1,5 +1,0 @@
-use Rattle.still_graph.specs.Sources.{ArePut}
-use Rattle.still_graph.proofs.putting.put_sources.Given as goal
-
-abbrev pub invariant-loop-row : goal.invariant-loop-row
-invariant-loop-row l = ArePut l.codes l.row l.initial.graph l.graph
