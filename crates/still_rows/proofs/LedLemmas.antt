@@ -1,7 +1,6 @@
 -- The frames to which the order of work leads.
 use Rattle.std.proofs.Common.{◌≡◌, ℕ, ◌+◌, ◌<◌, ◌≤◌, Bool, true, false, if◌then◌else◌, ◌==◌, nat_lt, List, [], slice_get, length, Some, refl, sym, ap, subst, ◌∙◌, arith}
 use Rattle.values.specs.declared.plan.PlanNode.{PlanNode}
-use Rattle.values.specs.declared.tried.Tried.{Tried}
 use Rattle.sources.specs.declared.body.Read.{Read}
 use Rattle.sources.specs.declared.colour.Colour.{Colour}
 use Rattle.sources.specs.declared.colour.Colour.TheVariants.{Clean, Check, Dirty}
@@ -13,7 +12,7 @@ use Rattle.work_order.specs.declared.frame.Due.TheVariants.{Not, First, Differs}
 use Rattle.work_order.specs.declared.frame.Frame.{Frame}
 use Rattle.work_order.specs.declared.order.Next.{Next}
 use Rattle.work_order.specs.declared.order.Next.TheVariants as next
-use Rattle.work_order.specs.Order.{next_of, cleared_frame, compared_frame, dirty_of, begun_of}
+use Rattle.work_order.specs.Order.{cleared_frame, compared_frame, dirty_of, begun_of}
 use Rattle.still_readers.proofs.Lists.{at_within, one_at, not_both}
 use Rattle.still_rows.specs.Frames.{IsFrame}
 use Rattle.still_rows.specs.Moves.{work_left, IsLook, IsNext, LeadsTo, IsLed, IsStopped}

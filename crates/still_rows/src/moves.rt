@@ -9,7 +9,6 @@ ghost use Rattle.values.specs.Reserved.{room_of};
 ghost use Rattle.sources.specs.declared.opening.Opened.{Opened as OpenedValue};
 ghost use Rattle.sources.specs.Bodies.{rows_read};
 ghost use Rattle.sources.specs.Rows.{IsGood, value_in};
-ghost use Rattle.sources.specs.Colours.{is_clean};
 ghost use Rattle.sources.specs.declared.body.Read.{Read as ReadValue};
 ghost use Rattle.work_order.specs.Order.{compared_frame, is_run};
 ghost use Rattle.work_order.specs.declared.order.Next.TheVariants as next;

@@ -1,4 +1,4 @@
-use Rattle.std.proofs.Common.{◌≡◌, ◌∙◌, ap}
+use Rattle.std.proofs.Common.{◌∙◌, ap}
 use Rattle.sources.specs.declared.body.Read.{Read}
 use Rattle.work_order.specs.Order.{compared_frame}
 use Rattle.still_readers.proofs.Lists.{one_at}
