@@ -204,10 +204,11 @@ left_draws t t' row number most table is h w = by t.full refl
     by : (f : Option ℕ) → t.full ≡ f → DrawsMost t' most
     by None e =
         let a = one_more t h.short row most is h.stopped (w.left e) h.stopped.stopped in
-        let b : t'.clock.drawn ≤ h.short.clock.drawn + 1 = ⊎_elim (λ (q : t'.clock.drawn ≡ h.short.clock.drawn). let l : t'.clock.drawn ≤ h.short.clock.drawn + 1 = omega arith in l) (λ (q : t'.clock.drawn ≡ h.short.clock.drawn + 1). let l : t'.clock.drawn ≤ h.short.clock.drawn + 1 = omega arith in l) h.filled.drawn in
+        let c : h.dirty.clock.drawn ≡ h.short.clock.drawn = ap (λ (q : Table). q.clock.drawn) h.dirtied.rest in
+        let b : t'.clock.drawn ≤ h.dirty.clock.drawn + 1 = ⊎_elim (λ (q : t'.clock.drawn ≡ h.dirty.clock.drawn). let l : t'.clock.drawn ≤ h.dirty.clock.drawn + 1 = omega arith in l) (λ (q : t'.clock.drawn ≡ h.dirty.clock.drawn + 1). let l : t'.clock.drawn ≤ h.dirty.clock.drawn + 1 = omega arith in l) h.filled.drawn in
         record { drawn = omega arith; left = never }
     by (Some n) e =
         let same = stays_drawn t h.short n table e (short_drawn t h.short row h.stopped) in
-        let once : t'.clock.drawn ≡ h.short.clock.drawn = ap (λ (q : Table). q.clock.drawn) (h.once n e) in
+        let once : t'.clock.drawn ≡ h.short.clock.drawn = ap (λ (q : Table). q.clock.drawn) (h.once n e ∙ h.dirtied.rest) in
         let a = w.drawn in
         record { drawn = omega arith; left = never }

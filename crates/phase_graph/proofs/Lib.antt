@@ -21,6 +21,7 @@ pub mod Filling
 pub mod Running
 pub mod Effects
 pub mod Rows
+pub mod Soiled
 pub mod Pumps
 pub mod Relayings
 pub mod Puttings

@@ -1,5 +1,5 @@
 -- A pump goes through the rows, one by one.
-use Rattle.std.proofs.Common.{◌≡◌, ◌≢◌, ◌⊎◌, inl, inr, ⊎_elim, ℕ, zero, suc, ◌+◌, ◌≤◌, ◌<◌, cond, Bool, true, false, Option, Some, None, List, [], ◌∷◌, ◌++◌, take, slice_get, get_or, length, refl, sym, ap, subst, ◌∙◌, arith}
+use Rattle.std.proofs.Common.{◌≡◌, ◌≢◌, ◌⊎◌, inl, inr, ⊎_elim, ℕ, zero, suc, ◌+◌, ◌≤◌, ◌<◌, cond, Bool, true, false, Option, Some, None, List, [], ◌∷◌, ◌++◌, take, slice_get, set, get_or, length, refl, sym, ap, subst, ◌∙◌, arith}
 use Rattle.std.specs.Prelude.{◌&&◌, ◌||◌, not, nat_eq, count_by, MatchOption}
 use Rattle.std.specs.List.{range_with_len}
 use Rattle.std.specs.Option.{option_or}
@@ -23,7 +23,7 @@ use Rattle.store_fields.specs.declared.edit.Edit.{Edit}
 use Rattle.sources.specs.declared.opening.Opened.{Opened}
 use Rattle.sources.specs.Colours.{is_clean}
 use Rattle.sources.proofs.RowLemmas.{clean_at}
-use Rattle.still_readers.proofs.Lists.{at_within, within_at, one_at, either, not_both}
+use Rattle.still_readers.proofs.Lists.{at_within, within_at, set_here, set_other, one_at, either, not_both}
 use Rattle.still_rows.specs.Works.{unclean_count}
 use Rattle.still_rows.proofs.FramesLemmas.{reads_back}
 use Rattle.still_effects.specs.declared.effect.Effect.{Effect}
@@ -34,7 +34,7 @@ use Rattle.run_meaning.specs.Words.{In, is_among}
 use Rattle.run_meaning.specs.Entries.{disposed_in}
 use Rattle.run_meaning.specs.Merge.{is_effect_node}
 use Rattle.run_meaning.specs.Causes.{is_gone}
-use Rattle.run_history.specs.Going.{Start, Going, plain_code, last_value, IsDead}
+use Rattle.run_history.specs.Going.{Start, Going, Goes, plain_code, last_value, IsDead}
 use Rattle.run_history.specs.Calls.{pump, LeftFull, StandsNow}
 use Rattle.run_history.proofs.Cut.{is_yes}
 use Rattle.run_history.proofs.Steps.{nothing_goes}
@@ -43,6 +43,7 @@ use Rattle.phase_graph.specs.declared.pumping.Turn.TheVariants as turn
 use Rattle.phase_graph.specs.declared.table.Table.{Table}
 use Rattle.phase_graph.specs.Table.{state_of, open_seen, IsTable, IsKept, MakesHome}
 use Rattle.phase_graph.specs.Pumping.{IsEffectOf, IsOther, IsDone, IsLeft, TurnedAs, counted}
+use Rattle.phase_graph.specs.Graph.{AreRunOrLeft}
 use Rattle.phase_graph.specs.Way.{IsOnWay, AreHome}
 use Rattle.phase_graph.proofs.Changes as changes
 use Rattle.phase_graph.proofs.Disposing.{kept_on}
@@ -51,6 +52,7 @@ use Rattle.phase_graph.proofs.Lists.{in_filter}
 use Rattle.phase_graph.proofs.Pumpings.{IsPumping, pumping_none, pumping_on, pumping_as}
 use Rattle.phase_graph.proofs.Rows.{effect_yes, effect_no}
 use Rattle.phase_graph.proofs.Running as running
+use Rattle.phase_graph.proofs.Soiled.{on_soiled}
 use Rattle.phase_graph.proofs.Starts.{at_clock, with_plan, plain_is}
 use Rattle.phase_graph.proofs.Steps.{makes_home}
 use Rattle.phase_graph.proofs.Stops.{fills, on_filled}
@@ -66,9 +68,13 @@ is_dead (Some b) = not b
 abbrev pub is_gone_in : List Bool → PlanNode → Bool
 is_gone_in live node = is_effect_node node && is_dead (slice_get live node.owner)
 
+-- the effect was left, and is dirty
+abbrev pub IsLeftIn : Table → List ℕ → ℕ → Type 0
+IsLeftIn t left n = In n left × ((opened : Opened) → slice_get t.rows.items n ≡ Some opened → opened.colour ≡ Dirty)
+
 -- an effect that is not left, with a live owner, is clean
 abbrev pub IsThrough : Table → List ℕ → ℕ → PlanNode → Type 0
-IsThrough t left n node = In n left ⊎ ((slice_get t.live.items node.owner ≡ Some false) ⊎ ((opened : Opened) → slice_get t.rows.items n ≡ Some opened → is_clean opened.colour ≡ true))
+IsThrough t left n node = IsLeftIn t left n ⊎ ((slice_get t.live.items node.owner ≡ Some false) ⊎ ((opened : Opened) → slice_get t.rows.items n ≡ Some opened → is_clean opened.colour ≡ true))
 
 abbrev pub FirstLeft : Table → Option (ℕ × Left) → ℕ → Type 0
 FirstLeft t first count = MatchOption first (count ≡ 0) (λ f. (0 < count) × IsEffect t.plan.nodes f.0 × LeftFull f.1 t.clock.drawn)
@@ -116,11 +122,13 @@ module _ (t t' : Table) (row : ℕ) (table : IsTable t) (is_open : t.clock.in_ph
   left_notes : (number : ℕ) → IsLeft t t' row number → NotesSo t t' 0 1
   left_notes number h s edits room way =
       let r = middle in
-      let on = seen_so t h.short h.stopped.tried.plan h.stopped.tried.live s edits room r.2 in (
+      let clock : at_clock h.dirty.clock ≡ at_clock h.short.clock = ap (λ (q : Table). at_clock q.clock) h.dirtied.rest in
+      let on = seen_so t h.short h.stopped.tried.plan h.stopped.tried.live s edits room r.2 in
+      let soiled = subst (λ (g : Going). IsOnWay (with_plan s t.plan) g (open_seen h.dirty edits room)) (sym clock) (on_soiled (with_plan s t.plan) (at_clock h.short.clock) h.short h.dirty row edits room h.dirtied on) in (
         r.0 ++ [],
         pumping_on (with_plan s t.plan) (at_clock t.clock) r.0 (at_clock h.short.clock) [] (at_clock t'.clock) 0 0 1 0 r.1
-            (pumping_none (with_plan s t.plan) (at_clock h.short.clock) (at_clock t'.clock) (fills (with_plan s t.plan) h.short t' number edits room h.filled)),
-        on_filled (with_plan s t.plan) h.short t' number edits room h.filled on,
+            (pumping_none (with_plan s t.plan) (at_clock h.short.clock) (at_clock t'.clock) (subst (λ (g : Going). Goes (with_plan s t.plan) g [] (at_clock t'.clock)) clock (fills (with_plan s t.plan) h.dirty t' number edits room h.filled))),
+        on_filled (with_plan s t.plan) h.dirty t' number edits room h.filled soiled,
       )
     where
       more : (block : List Noted) → IsPumping (with_plan s t.plan) (at_clock t.clock) block (at_clock h.short.clock) 0 0 → IsPumping (with_plan s t.plan) (at_clock t.clock) block (at_clock h.short.clock) 0 1
@@ -158,7 +166,7 @@ through_more t t' at left more stay wider before here n node l is k = either n a
     was = ap (λ (q : Plan). slice_get q.nodes n) (sym stay.plan) ∙ is
 
     old : n ≢ at → IsThrough t left n node → IsThrough t' more n node
-    old other (inl i) = inl (wider n i)
+    old other (inl i) = inl (wider n i.0, λ opened at'. i.1 opened (sym (stay.rows n node was k other) ∙ at'))
     old other (inr (inl d)) = inr (inl (ap (λ v. slice_get v.items node.owner) stay.live ∙ d))
     old other (inr (inr c)) = inr (inr (λ opened at'. c opened (sym (stay.rows n node was k other) ∙ at')))
 
@@ -307,21 +315,31 @@ module _ (t0 t t' : Table) (at : ℕ) (told : Pumped) (is : ArePumped t0 t at to
     first = first_of told.first_left is.first;
     left = at ∷ is.left;
     few_left = (let l = is.few_left in omega arith);
-    through = through_more t t' at is.left (at ∷ is.left) others_left (λ n i. inr i) is.through (λ node a k. inl (inl refl));
+    through = through_more t t' at is.left (at ∷ is.left) others_left (λ n i. inr i) is.through (λ node a k. inl (inl refl, dirty));
     way = way_as t0 t t' at told is 0 1 told.ran (told.left + 1) (omega arith) refl (left_notes t t' at is.kept.table is_open of number h);
   }
     where
       live : t'.live ≡ t.live
-      live = ap (λ (q : Table). q.live) h.filled.same ∙ h.stopped.tried.live
+      live = ap (λ (q : Table). q.live) h.filled.same ∙ ap (λ (q : Table). q.live) h.dirtied.rest ∙ h.stopped.tried.live
 
-      rows : t'.rows ≡ h.short.rows
-      rows = ap (λ (q : Table). q.rows) h.filled.same
+      rows : t'.rows.items ≡ set h.short.rows.items at (record h.dirtied.opened { colour = Dirty })
+      rows = ap (λ (q : Table). q.rows.items) h.filled.same ∙ h.dirtied.rows
+
+      dirty : (opened : Opened) → slice_get t'.rows.items at ≡ Some opened → opened.colour ≡ Dirty
+      dirty opened w = let same = one_at opened (record h.dirtied.opened { colour = Dirty }) w (ap (λ (q : List Opened). slice_get q at) rows ∙ set_here h.short.rows.items at h.dirtied.opened (record h.dirtied.opened { colour = Dirty }) h.dirtied.at) in ap (λ (z : Opened). z.colour) same
 
       grows : t.clock.drawn ≤ t'.clock.drawn
-      grows = let g = (short_drawn t h.short at h.stopped).grows in ⊎_elim (λ (e : t'.clock.drawn ≡ h.short.clock.drawn). let l : t.clock.drawn ≤ t'.clock.drawn = omega arith in l) (λ (e : t'.clock.drawn ≡ h.short.clock.drawn + 1). let l : t.clock.drawn ≤ t'.clock.drawn = omega arith in l) h.filled.drawn
+      grows =
+          let g = (short_drawn t h.short at h.stopped).grows in
+          let c : h.dirty.clock.drawn ≡ h.short.clock.drawn = ap (λ (q : Table). q.clock.drawn) h.dirtied.rest in
+          ⊎_elim (λ (e : t'.clock.drawn ≡ h.dirty.clock.drawn). let l : t.clock.drawn ≤ t'.clock.drawn = omega arith in l) (λ (e : t'.clock.drawn ≡ h.dirty.clock.drawn + 1). let l : t.clock.drawn ≤ t'.clock.drawn = omega arith in l) h.filled.drawn
 
       others_left : OthersStay t t' at
-      others_left = record { plan = kept.plan; live = live; rows = (λ n node a k other. ap (λ v. slice_get v.items n) rows ∙ h.stopped.tried.others n node a k other) }
+      others_left = record {
+        plan = kept.plan;
+        live = live;
+        rows = (λ n node a k other. ap (λ (q : List Opened). slice_get q n) rows ∙ set_other h.short.rows.items at n (record h.dirtied.opened { colour = Dirty }) other ∙ h.stopped.tried.others n node a k other);
+      }
 
       first_of : (o : Option (ℕ × Left)) → FirstLeft t o told.left → FirstLeft t' (option_or o (Some (at, left.Full number))) (told.left + 1)
       first_of None f = ((omega arith), subst (λ (q : Plan). IsEffect q.nodes at) (sym kept.plan) of.effect, (h.filled.above, h.filled.within))
@@ -463,6 +481,15 @@ pump_ends t t' pass told table is_open is = makes_home t t' pass (pump told) (λ
     first_of (Some w) f = (f.0, (f.1.node, ap (λ (q : Plan). slice_get q.nodes w.0) (sym is.kept.plan) ∙ f.1.at, f.1.is), f.2)
 
     stand : (s : Start) (edits : List (List Edit)) (room : ℕ) → AreHome (with_plan s t.plan) → IsOnWay (with_plan s t.plan) (at_clock t'.clock) (open_seen t' edits room) → (n : ℕ) (node : PlanNode) → slice_get t.plan.nodes n ≡ Some node → node.kind ≡ kind.Effect → IsThrough t' is.left n node → In n is.left ⊎ StandsNow (with_plan s t.plan) t'.clock.entries.list n
-    stand s edits room home on n node at k (inl i) = inl i
+    stand s edits room home on n node at k (inl i) = inl i.0
     stand s edits room home on n node at k (inr (inl d)) = inr (inl (node, at, disposed (with_plan s t.plan) (at_clock t'.clock) t' edits room home on n node at d))
     stand s edits room home on n node at k (inr (inr c)) = inr (inr (stands_clean (with_plan s t.plan) (at_clock t'.clock) t' edits room home on is.kept.table (is.kept.in_phase ∙ is_open) is.kept.plan n node at k c))
+
+-- each effect whose owner is live is clean or dirty then
+pub pump_leaves : (t t' : Table) (told : Pumped) → ArePumped t t' (length t'.plan.nodes) told → AreRunOrLeft t.plan.nodes t.live.items t'.rows.items
+pump_leaves t t' told is n node row at k alive w = by (is.through n node (let l = at_within t.plan.nodes n node at in let q = ap (λ (x : Plan). length x.nodes) is.kept.plan in omega arith) (ap (λ (x : Plan). slice_get x.nodes n) is.kept.plan ∙ at) k)
+  where
+    by : IsThrough t' is.left n node → (is_clean row.colour ≡ true) ⊎ (row.colour ≡ Dirty)
+    by (inl i) = inr (i.1 row w)
+    by (inr (inl dead)) = let no : true ≡ false = one_at true false alive (ap (λ v. slice_get v.items node.owner) (sym is.live) ∙ dead) in cc
+    by (inr (inr clean)) = inl (clean row w)

@@ -1,17 +1,22 @@
 -- A source is given a value between phases.
-use Rattle.std.proofs.Common.{◌≡◌, ◌≢◌, inl, inr, ℕ, ◌+◌, ◌≤◌, ◌<◌, ◌^◌, Bool, true, false, Some, List, [], slice_get, get_or, length, length-set, refl, sym, ap, subst, ◌∙◌, arith}
+use Rattle.std.proofs.Common.{◌≡◌, ◌≢◌, inl, inr, ℕ, ◌+◌, ◌≤◌, ◌<◌, ◌^◌, Bool, true, false, Some, List, [], slice_get, get_or, Contains, length, length-set, refl, sym, ap, subst, ◌∙◌, arith}
 use Rattle.std.specs.Prelude.{if◌then◌else◌, nat_eq, IsSomeAnd}
 use Rattle.std.proofs.lemmas.Bool.Decides.{nat_tests}
 use Rattle.std.proofs.lemmas.Option.{get_or_from_slice_get}
 use Rattle.values.specs.declared.code.Code.{Code}
+use Rattle.values.specs.declared.plan.PlanNode.{PlanNode}
+use Rattle.values.specs.Plan.{rows_in}
 use Rattle.values.specs.Packing.{packed, unpacked, IsPacked}
 use Rattle.values.specs.PlanValues.{is_derived}
 use Rattle.values.proofs.PackingLemmas.{unpacked-packed}
 use Rattle.store_fields.specs.declared.edit.Edit.{Edit}
 use Rattle.sources.specs.declared.opening.Opened.{Opened}
-use Rattle.still_readers.specs.Marking.{written_row, IsSource}
+use Rattle.still_readers.specs.declared.readers.Readers.{Readers}
+use Rattle.still_readers.specs.Readers.{HasRead, IsReadersOf}
+use Rattle.still_readers.specs.Marking.{Reached, written_row, IsSource}
 use Rattle.still_readers.proofs.Lists.{within_at, set_here, set_other, one_at}
 use Rattle.still_rows.specs.Clock.{now_of}
+use Rattle.still_rows.specs.Frames.{AreLawful}
 use Rattle.phase_graph.specs.declared.table.Table.{Table}
 use Rattle.phase_graph.specs.Graph.{GraphState}
 use Rattle.phase_graph.specs.Table.{seen, noted_in, IsTable, IsKept, IsWrittenIn, HasWord, IsPutAs}
@@ -54,6 +59,24 @@ put_other t t' row word number code is table h not_so same w = (h.opened, h.at, 
 pub put_kept : (t t' : Table) (row : ℕ) (code : Code) → IsTable t → t.clock.base < 2 ^ 62 → IsPutAs t t' row code → IsKept t t'
 put_kept t t' row code table early (opened, at, inl p) = subst (IsKept t) (sym p.1) record { table = table; plan = refl; base = refl; in_phase = refl }
 put_kept t t' row code table early (opened, at, inr (other, (number, w))) = written_kept t t' table early row code number w
+
+-- a reader of a row is derived, and its expression names the row
+reader_names : (nodes : List PlanNode) (readers : Readers) (m row : ℕ) → IsReadersOf nodes readers → HasRead readers m row → (node : PlanNode) × (slice_get nodes m ≡ Some node) × (is_derived node.kind ≡ true) × Contains (rows_in node.expr) row
+reader_names nodes readers m row of_plan h =
+    let is = of_plan.each h.place h.reader h.at in
+    let w = is.within in let s = h.of_node in
+    let node = within_at nodes m (omega arith) in
+    let at = ap (slice_get nodes) s ∙ node.1 in
+    (node.0, node.1, is.derived node.0 at, subst (λ (r : ℕ). Contains (rows_in node.0.expr) r) h.of_row (is.names node.0 at))
+
+-- a row that is reached stands at the bound or past it, where all that name the row do
+reached_past : (nodes : List PlanNode) (readers : Readers) (row bound : ℕ) → AreLawful nodes → IsReadersOf nodes readers → ((n : ℕ) (node : PlanNode) → slice_get nodes n ≡ Some node → Contains (rows_in node.expr) row → is_derived node.kind ≡ true → bound ≤ n) → (m : ℕ) → Reached readers row m → bound ≤ m
+reached_past nodes readers row bound lawful of_plan names m (Reached.direct m' h) = let r = reader_names nodes readers m' row of_plan h in names m' r.0 r.1 r.3 r.2
+reached_past nodes readers row bound lawful of_plan names m (Reached.further n m' g h) =
+    let r = reader_names nodes readers m' n of_plan h in
+    let low = (lawful.reads m' r.0 r.1 n r.3).0 in
+    let rest = reached_past nodes readers row bound lawful of_plan names n g in
+    omega arith
 
 module _ (x : GraphState) (t t' : Table) (lists : List (List Edit)) (room row : ℕ) (code : Code) (view : seen t lists room ≡ x) where
   rest_of : t.clock.in_phase ≡ false → IsPutAs t t' row code → seen t' lists room ≡ record (seen t lists room) { rows = t'.rows.items; drawn = t'.clock.drawn }
@@ -99,3 +122,12 @@ module _ (x : GraphState) (t t' : Table) (lists : List (List Edit)) (room row : 
 
   pub put_others : IsPutAs t t' row code → (n : ℕ) (one two : Opened) → n ≢ row → slice_get x.rows n ≡ Some one → slice_get t'.rows.items n ≡ Some two → two ≡ record one { colour = two.colour }
   put_others put = subst (λ (y : GraphState). (n : ℕ) (one two : Opened) → n ≢ row → slice_get y.rows n ≡ Some one → slice_get t'.rows.items n ≡ Some two → two ≡ record one { colour = two.colour }) view (others_of put)
+
+  pub put_settled : IsTable t → t.clock.base < 2 ^ 62 → IsPutAs t t' row code → (bound : ℕ) → ((n : ℕ) (node : PlanNode) → slice_get x.plan.nodes n ≡ Some node → Contains (rows_in node.expr) row → is_derived node.kind ≡ true → bound ≤ n) → (n : ℕ) → n < bound → n ≢ row → slice_get t'.rows.items n ≡ slice_get x.rows n
+  put_settled table early put bound = subst (λ (y : GraphState). ((n : ℕ) (node : PlanNode) → slice_get y.plan.nodes n ≡ Some node → Contains (rows_in node.expr) row → is_derived node.kind ≡ true → bound ≤ n) → (n : ℕ) → n < bound → n ≢ row → slice_get t'.rows.items n ≡ slice_get y.rows n) view (λ names n l apart. by put names n l apart)
+    where
+      by : IsPutAs t t' row code → ((n : ℕ) (node : PlanNode) → slice_get t.plan.nodes n ≡ Some node → Contains (rows_in node.expr) row → is_derived node.kind ≡ true → bound ≤ n) → (n : ℕ) → n < bound → n ≢ row → slice_get t'.rows.items n ≡ slice_get t.rows.items n
+      by (opened, at, inl p) names n l apart = ap (λ (q : Table). slice_get q.rows.items n) p.1
+      by (opened, at, inr (other, (number, w))) names n l apart =
+          let still = table.still early in
+          w.others n apart (λ reached. let r = reached_past t.plan.nodes t.readers row bound still.lawful still.of_plan names n reached in absurd (omega arith))

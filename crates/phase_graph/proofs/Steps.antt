@@ -15,7 +15,7 @@ use Rattle.store_fields.specs.declared.edit.Edit.{Edit}
 use Rattle.sources.specs.declared.opening.Opened.{Opened}
 use Rattle.sources.specs.Colours.{is_clean}
 use Rattle.sources.specs.Rows.{value_in}
-use Rattle.still_readers.specs.Marking.{IsDarkened, written_row, IsSource}
+use Rattle.still_readers.specs.Marking.{IsDarkened, Reached, written_row, IsSource}
 use Rattle.still_readers.proofs.Lists.{at_within, within_at}
 use Rattle.still_rows.specs.Clock.{IsTicked, now_of}
 use Rattle.still_rows.specs.Works.{IsStill, IsWorkOf, unclean_count}
@@ -25,7 +25,7 @@ use Rattle.run_history.specs.Calls.{Call, set, get, Calls, IsGot}
 use Rattle.run_history.proofs.Lists.{append_nil}
 use Rattle.run_history.proofs.Steps.{nothing_goes, goes_on}
 use Rattle.phase_graph.specs.declared.table.Table.{Table}
-use Rattle.phase_graph.specs.Table.{state_of, open_seen, IsTable, IsFullAt, HasOwner, IsFilled, IsStirred, IsAnswered, IsWrittenIn, IsAsBefore, IsSettled, MakesCall, MakesHome}
+use Rattle.phase_graph.specs.Table.{state_of, open_seen, IsTable, IsFullAt, HasOwner, IsFilled, IsStirred, IsAnswered, IsWrittenIn, IsAsBefore, IsSettled, IsSpanSettled, MakesCall, MakesHome}
 use Rattle.phase_graph.specs.Way.{ShowsAs, IsOnWay, AreHome}
 use Rattle.phase_graph.proofs.Starts.{at_clock, with_plan, from_here}
 use Rattle.phase_graph.proofs.Changes as changes
@@ -184,8 +184,8 @@ answered_of old new node (Ok a) nodes rows rows' n o w l value number =
     }
 answered_of old new node (Err e) nodes rows rows' n o w l value number = tt
 
-pub written_of : {E : Type 0} (old new : Table) (signal : ℕ) (code : Code) (r : Result ℕ E) (nodes : List PlanNode) (rows rows' : List Opened) → nodes ≡ old.plan.nodes → rows ≡ old.rows.items → rows' ≡ new.rows.items → new.plan ≡ old.plan → new.live ≡ old.live → new.full ≡ old.full → IsStill nodes rows' new.readers new.clock → IsWorkOf nodes new.work → OnOk r (IsTicked old.clock new.clock (fact.Write signal code)) → IfOk r (λ n. n ≡ new.clock.drawn) → unpacked (packed code) ≡ code → (was : Opened) → slice_get rows signal ≡ Some was → OnOk r ((row : Opened) → slice_get rows signal ≡ Some row → IsDarkened (slice_set rows signal (written_row row (packed code) (now_of new.clock))) rows') → IfOk r (IsWrittenIn old new signal code)
-written_of old new signal code (Ok number) nodes rows rows' n o w plan live full still fits ticked drawn undone was at written = record {
+pub written_of : {E : Type 0} (old new : Table) (signal : ℕ) (code : Code) (r : Result ℕ E) (nodes : List PlanNode) (rows rows' : List Opened) → nodes ≡ old.plan.nodes → rows ≡ old.rows.items → rows' ≡ new.rows.items → new.plan ≡ old.plan → new.live ≡ old.live → new.full ≡ old.full → IsStill nodes rows' new.readers new.clock → IsWorkOf nodes new.work → OnOk r (IsTicked old.clock new.clock (fact.Write signal code)) → IfOk r (λ n. n ≡ new.clock.drawn) → unpacked (packed code) ≡ code → (was : Opened) → slice_get rows signal ≡ Some was → OnOk r ((row : Opened) → slice_get rows signal ≡ Some row → IsDarkened (slice_set rows signal (written_row row (packed code) (now_of new.clock))) rows') → OnOk r ((i : ℕ) → i ≢ signal → (Reached old.readers signal i → ⊥) → slice_get rows' i ≡ slice_get rows i) → IfOk r (IsWrittenIn old new signal code)
+written_of old new signal code (Ok number) nodes rows rows' n o w plan live full still fits ticked drawn undone was at written others = record {
   plan = plan;
   live = live;
   full = full;
@@ -198,8 +198,9 @@ written_of old new signal code (Ok number) nodes rows rows' n o w plan live full
   at = ap (λ (q : List Opened). slice_get q signal) (sym o) ∙ at;
   written = subst (λ (q : List Opened). (row : Opened) → slice_get q signal ≡ Some row → IsDarkened (slice_set q signal (written_row row (packed code) (now_of new.clock))) new.rows.items) o
       (subst (λ (q : List Opened). (row : Opened) → slice_get rows signal ≡ Some row → IsDarkened (slice_set rows signal (written_row row (packed code) (now_of new.clock))) q) w written);
+  others = (λ i apart none. ap (λ (q : List Opened). slice_get q i) (sym w) ∙ others i apart none ∙ ap (λ (q : List Opened). slice_get q i) o);
 }
-written_of old new signal code (Err e) nodes rows rows' n o w plan live full still fits ticked drawn undone was at written = tt
+written_of old new signal code (Err e) nodes rows rows' n o w plan live full still fits ticked drawn undone was at written others = tt
 
 pub owner_after : (t t' : Table) (row owner : ℕ) (b : Bool) → IsAsBefore t t' → HasOwner t.plan.nodes t.live.items row owner b → HasOwner t'.plan.nodes t'.live.items row owner b
 owner_after t t' row owner b before has = record { node = has.node; at = ap (λ (q : Plan). slice_get q.nodes row) before.plan ∙ has.at; is_owner = has.is_owner; is_live = ap (λ v. slice_get v.items owner) before.live ∙ has.is_live }
@@ -216,18 +217,30 @@ settled_of old new (Ok u) nodes rows rows' n o w stirred memos = record {
 }
 settled_of old new (Err e) nodes rows rows' n o w stirred memos = tt
 
--- there are numbers for all, so it is done
-pub all_settled : {A E : Type 0} (old new : Table) (r : Result A E) → IsTable old → old.clock.drawn ≤ 8192 → IsStirred old new → OnErr r (65536 ≤ new.clock.drawn) → OnOk r (IsSettled old new) → IsSettled old new
-all_settled old new (Ok u) table few stirred full settled = settled
-all_settled old new (Err e) table few stirred full settled =
+pub span_of : {E : Type 0} (old new : Table) (from to : ℕ) (r : Result (Unit {0}) E) (nodes : List PlanNode) (rows rows' : List Opened) → nodes ≡ old.plan.nodes → rows ≡ old.rows.items → rows' ≡ new.rows.items → IsStirred old new → ((i : ℕ) → i < from → slice_get rows' i ≡ slice_get rows i) → ((i : ℕ) → to ≤ i → slice_get rows' i ≡ slice_get rows i) → new.clock.drawn ≤ old.clock.drawn + (to - from) → OnOk r ((i : ℕ) (node : PlanNode) (row : Opened) → i < to → slice_get nodes i ≡ Some node → slice_get rows' i ≡ Some row → node.kind ≡ kind.Memo → (is_clean row.colour ≡ true) × (unpacked row.code ≡ plan_value nodes (value_in rows) i)) → OnOk r (IsSpanSettled old new from to)
+span_of old new from to (Ok u) nodes rows rows' n o w stirred below past drawn memos = record {
+  stirred = stirred;
+  below = (λ i l. same i (below i l));
+  past = (λ i l. same i (past i l));
+  drawn = drawn;
+  memos = (λ i node row l a b k.
+      let m = memos i node row l (ap (λ (q : List PlanNode). slice_get q i) n ∙ a) (ap (λ (q : List Opened). slice_get q i) w ∙ b) k in
+      (m.0, m.1 ∙ (λ j. plan_value (n j) (value_in (o j)) i)));
+}
+  where
+    same : (i : ℕ) → slice_get rows' i ≡ slice_get rows i → slice_get new.rows.items i ≡ slice_get old.rows.items i
+    same i e = ap (λ (q : List Opened). slice_get q i) (sym w) ∙ e ∙ ap (λ (q : List Opened). slice_get q i) o
+span_of old new from to (Err e) nodes rows rows' n o w stirred below past drawn memos = tt
+
+-- where there are numbers for all, all is done
+pub all_done : {A E : Type 0} {P : Type 0} (old new : Table) (r : Result A E) → IsTable old → old.clock.drawn ≤ 61440 → IsStirred old new → OnErr r (65536 ≤ new.clock.drawn) → OnErr r (0 < unclean_count new.rows.items) → OnOk r P → P
+all_done old new (Ok u) table few stirred full left settled = settled
+all_done old new (Err e) table few stirred full left settled =
     let a = stirred.step.spent in
-    let b = unclean_all old.rows.items in
+    let b = changes.unclean_most old.rows.items in
     let c = table.good.paired in
     let d = table.lawful.few_nodes in
     absurd (omega arith)
-  where
-    unclean_all : (rs : List Opened) → unclean_count rs ≤ length rs
-    unclean_all rs = changes.unclean_most rs
 
 pub if_none : {A P : Type 0} (r : Option A) → r ≡ None → IfNone r P → P
 if_none None e h = h

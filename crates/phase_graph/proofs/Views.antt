@@ -1,5 +1,5 @@
 -- What is seen of a graph.
-use Rattle.std.proofs.Common.{◌≡◌, ℕ, ◌+◌, ◌^◌, ◌<◌, ◌≤◌, Bool, true, false, Some, List, [], slice_get, length, sym, ap, subst, ◌∙◌, arith, Option, None, get_or, ◌≢◌, refl}
+use Rattle.std.proofs.Common.{◌≡◌, ℕ, ◌+◌, ◌-◌, ◌^◌, ◌<◌, ◌≤◌, Bool, true, false, Some, List, [], slice_get, length, sym, ap, subst, ◌∙◌, arith, Option, None, get_or, ◌≢◌, refl}
 use Rattle.std.specs.Prelude.{if◌then◌else◌, IfSome, IfNone, option_map}
 use Rattle.std.proofs.lemmas.Option.{slice_get_read}
 use Rattle.values.specs.declared.code.Code.{Code}
@@ -17,7 +17,7 @@ use Rattle.run_history.specs.Going.{Start, Going}
 use Rattle.run_history.specs.Calls.{Call, Calls}
 use Rattle.phase_graph.specs.declared.table.Table.{Table}
 use Rattle.phase_graph.specs.Graph.{GraphState}
-use Rattle.phase_graph.specs.Table.{seen, open_seen, IsTable, IsSettled, MakesCall, MakesHome}
+use Rattle.phase_graph.specs.Table.{seen, open_seen, IsTable, IsStirred, IsSettled, IsSpanSettled, MakesCall, MakesHome}
 use Rattle.phase_graph.specs.Way.{IsOnWay, AreHome}
 use Rattle.phase_graph.proofs.Changes.{unclean_most}
 
@@ -39,9 +39,20 @@ graph_home x t t' lists room pass call view phase makes s g home way =
 
 -- ---- settling
 
-module _ (x : GraphState) (t t' : Table) (lists : List (List Edit)) (room : ℕ) (view : seen t lists room ≡ x) (table : IsTable t) (settled : IsSettled t t') where
-  pub settled_ticks : (x.drawn ≤ t'.clock.drawn) × (t'.clock.drawn ≤ x.drawn + length x.plan.nodes)
-  settled_ticks = subst (λ (y : GraphState). (y.drawn ≤ t'.clock.drawn) × (t'.clock.drawn ≤ y.drawn + length y.plan.nodes)) view (ticks, more)
+sources_stay : (t t' : Table) → IsTable t → IsStirred t t' → t.clock.base < 2 ^ 62 → (n : ℕ) (node : PlanNode) → slice_get t.plan.nodes n ≡ Some node → is_derived node.kind ≡ false → slice_get t'.rows.items n ≡ slice_get t.rows.items n
+sources_stay t t' table stirred early n node at d =
+    let w = at_within t.plan.nodes n node at in let p = table.good.paired in let q = stirred.step.since.paired in
+    let old = within_at t.rows.items n (omega arith) in
+    let new = within_at t'.rows.items n (omega arith) in
+    let same = (stirred.step.since.each n old.0 new.0 old.1 new.1).clean (((table.still early).good.each n node old.0 at old.1).source d) in
+    new.1 ∙ ap (λ (z : Opened). Some z) same ∙ sym old.1
+
+module _ (x : GraphState) (t t' : Table) (lists : List (List Edit)) (room : ℕ) (view : seen t lists room ≡ x) (table : IsTable t) where
+  pub stirred_sources : IsStirred t t' → t.clock.base < 2 ^ 62 → (n : ℕ) (node : PlanNode) → slice_get x.plan.nodes n ≡ Some node → is_derived node.kind ≡ false → slice_get t'.rows.items n ≡ slice_get x.rows n
+  stirred_sources stirred early = subst (λ (y : GraphState). (n : ℕ) (node : PlanNode) → slice_get y.plan.nodes n ≡ Some node → is_derived node.kind ≡ false → slice_get t'.rows.items n ≡ slice_get y.rows n) view (sources_stay t t' table stirred early)
+
+  pub settled_ticks : IsSettled t t' → (x.drawn ≤ t'.clock.drawn) × (t'.clock.drawn ≤ x.drawn + length x.plan.nodes)
+  settled_ticks settled = subst (λ (y : GraphState). (y.drawn ≤ t'.clock.drawn) × (t'.clock.drawn ≤ y.drawn + length y.plan.nodes)) view (ticks, more)
     where
       ticks : t.clock.drawn ≤ t'.clock.drawn
       ticks = settled.stirred.step.since.drawn
@@ -49,19 +60,24 @@ module _ (x : GraphState) (t t' : Table) (lists : List (List Edit)) (room : ℕ)
       more : t'.clock.drawn ≤ t.clock.drawn + length t.plan.nodes
       more = let a = settled.stirred.step.spent in let b = unclean_most t.rows.items in let c = table.good.paired in omega arith
 
-  pub settled_memos : (n : ℕ) (node : PlanNode) (row : Opened) → slice_get x.plan.nodes n ≡ Some node → slice_get t'.rows.items n ≡ Some row → node.kind ≡ kind.Memo → (is_clean row.colour ≡ true) × (unpacked row.code ≡ plan_value x.plan.nodes (value_in x.rows) n)
-  settled_memos = subst (λ (y : GraphState). (n : ℕ) (node : PlanNode) (row : Opened) → slice_get y.plan.nodes n ≡ Some node → slice_get t'.rows.items n ≡ Some row → node.kind ≡ kind.Memo → (is_clean row.colour ≡ true) × (unpacked row.code ≡ plan_value y.plan.nodes (value_in y.rows) n)) view settled.memos
+  pub settled_memos : IsSettled t t' → (n : ℕ) (node : PlanNode) (row : Opened) → slice_get x.plan.nodes n ≡ Some node → slice_get t'.rows.items n ≡ Some row → node.kind ≡ kind.Memo → (is_clean row.colour ≡ true) × (unpacked row.code ≡ plan_value x.plan.nodes (value_in x.rows) n)
+  settled_memos settled = subst (λ (y : GraphState). (n : ℕ) (node : PlanNode) (row : Opened) → slice_get y.plan.nodes n ≡ Some node → slice_get t'.rows.items n ≡ Some row → node.kind ≡ kind.Memo → (is_clean row.colour ≡ true) × (unpacked row.code ≡ plan_value y.plan.nodes (value_in y.rows) n)) view settled.memos
 
-  pub settled_sources : t.clock.base < 2 ^ 62 → (n : ℕ) (node : PlanNode) → slice_get x.plan.nodes n ≡ Some node → is_derived node.kind ≡ false → slice_get t'.rows.items n ≡ slice_get x.rows n
-  settled_sources early = subst (λ (y : GraphState). (n : ℕ) (node : PlanNode) → slice_get y.plan.nodes n ≡ Some node → is_derived node.kind ≡ false → slice_get t'.rows.items n ≡ slice_get y.rows n) view stays
-    where
-      stays : (n : ℕ) (node : PlanNode) → slice_get t.plan.nodes n ≡ Some node → is_derived node.kind ≡ false → slice_get t'.rows.items n ≡ slice_get t.rows.items n
-      stays n node at d =
-          let w = at_within t.plan.nodes n node at in let p = table.good.paired in let q = settled.stirred.step.since.paired in
-          let old = within_at t.rows.items n (omega arith) in
-          let new = within_at t'.rows.items n (omega arith) in
-          let same = (settled.stirred.step.since.each n old.0 new.0 old.1 new.1).clean (((table.still early).good.each n node old.0 at old.1).source d) in
-          new.1 ∙ ap (λ (z : Opened). Some z) same ∙ sym old.1
+  module _ (from to : ℕ) (settled : IsSpanSettled t t' from to) where
+    pub span_ticks : (x.drawn ≤ t'.clock.drawn) × (t'.clock.drawn ≤ x.drawn + (to - from))
+    span_ticks = subst (λ (y : GraphState). (y.drawn ≤ t'.clock.drawn) × (t'.clock.drawn ≤ y.drawn + (to - from))) view (settled.stirred.step.since.drawn, settled.drawn)
+
+    pub span_long : length t'.rows.items ≡ length x.rows
+    span_long = settled.stirred.step.since.paired ∙ ap (λ (y : GraphState). length y.rows) view
+
+    pub span_memos : (n : ℕ) (node : PlanNode) (row : Opened) → n < to → slice_get x.plan.nodes n ≡ Some node → slice_get t'.rows.items n ≡ Some row → node.kind ≡ kind.Memo → (is_clean row.colour ≡ true) × (unpacked row.code ≡ plan_value x.plan.nodes (value_in x.rows) n)
+    span_memos = subst (λ (y : GraphState). (n : ℕ) (node : PlanNode) (row : Opened) → n < to → slice_get y.plan.nodes n ≡ Some node → slice_get t'.rows.items n ≡ Some row → node.kind ≡ kind.Memo → (is_clean row.colour ≡ true) × (unpacked row.code ≡ plan_value y.plan.nodes (value_in y.rows) n)) view settled.memos
+
+    pub span_below : (n : ℕ) → n < from → slice_get t'.rows.items n ≡ slice_get x.rows n
+    span_below n l = settled.below n l ∙ ap (λ (y : GraphState). slice_get y.rows n) view
+
+    pub span_past : (n : ℕ) → to ≤ n → slice_get t'.rows.items n ≡ slice_get x.rows n
+    span_past n l = settled.past n l ∙ ap (λ (y : GraphState). slice_get y.rows n) view
 
 -- ---- the value of a row
 

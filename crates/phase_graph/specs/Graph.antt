@@ -1,11 +1,15 @@
 -- The graph over the rows of a plan, as contracts see it.
-use Rattle.std.specs.Prelude.{◌≡◌, ℕ, ◌+◌, ◌-◌, Bool, Result, Ok, Err, List, [], ◌∷◌, ◌++◌, slice_set, unwrap_or}
+use Rattle.std.specs.Prelude.{◌≡◌, ℕ, ◌+◌, ◌-◌, ◌<◌, ◌⊎◌, Bool, true, Some, Result, Ok, Err, List, [], ◌∷◌, ◌++◌, slice_get, slice_set, unwrap_or}
 use Rattle.values.specs.declared.plan.Noted.{Noted}
 use Rattle.values.specs.declared.plan.Plan.{Plan}
 use Rattle.values.specs.declared.plan.Stop.{Stop}
+use Rattle.values.specs.declared.plan.Kind.TheVariants.{Memo, Effect}
+use Rattle.values.specs.declared.plan.PlanNode.{PlanNode}
 use Rattle.script_items.specs.Script.{numbered}
 use Rattle.store_fields.specs.declared.edit.Edit.{Edit}
+use Rattle.sources.specs.declared.colour.Colour.TheVariants.{Dirty}
 use Rattle.sources.specs.declared.opening.Opened.{Opened}
+use Rattle.sources.specs.Colours.{is_clean}
 
 pub record GraphState : Type 0 where
   pub plan : Plan
@@ -40,3 +44,11 @@ pub record StaysOpen (old new : GraphState) : Type 0 where
 abbrev pub edits_with : List (List Edit) → ℕ → Edit → Result ℕ Stop → List (List Edit)
 edits_with lists pass asked (Ok number) = slice_set lists (pass - 1) (unwrap_or (numbered lists pass) [] ++ asked ∷ [])
 edits_with lists pass asked (Err why) = lists
+
+-- every memo below this row is up to date
+abbrev pub AreSettledTo : List PlanNode → List Opened → ℕ → Type 0
+AreSettledTo nodes rows bound = (n : ℕ) (node : PlanNode) (row : Opened) → n < bound → slice_get nodes n ≡ Some node → slice_get rows n ≡ Some row → node.kind ≡ Memo → is_clean row.colour ≡ true
+
+-- each effect whose owner is live is clean, or dirty where it was left
+abbrev pub AreRunOrLeft : List PlanNode → List Bool → List Opened → Type 0
+AreRunOrLeft nodes live rows = (n : ℕ) (node : PlanNode) (row : Opened) → slice_get nodes n ≡ Some node → node.kind ≡ Effect → slice_get live node.owner ≡ Some true → slice_get rows n ≡ Some row → (is_clean row.colour ≡ true) ⊎ (row.colour ≡ Dirty)

@@ -1,10 +1,11 @@
 -- What the run of one effect leaves of a table, and what a pump counts.
-use Rattle.std.specs.Prelude.{◌≡◌, ◌≢◌, ℕ, ◌+◌, ◌≤◌, Bool, true, false, Some, Result, Ok, Err, slice_get}
+use Rattle.std.specs.Prelude.{◌≡◌, ◌≢◌, ℕ, ◌+◌, ◌≤◌, Bool, true, false, Some, Result, Ok, Err, slice_get, slice_set}
 use Rattle.std.specs.Option.{option_or}
 use Rattle.values.specs.declared.plan.Kind.TheVariants as kind
 use Rattle.values.specs.declared.plan.Left.TheVariants as left
 use Rattle.values.specs.declared.plan.PlanNode.{PlanNode}
 use Rattle.values.specs.declared.plan.Pumped.{Pumped}
+use Rattle.sources.specs.declared.colour.Colour.TheVariants.{Dirty}
 use Rattle.sources.specs.declared.opening.Opened.{Opened}
 use Rattle.sources.specs.Colours.{is_clean}
 use Rattle.still_rows.specs.declared.clock.Full.{Full}
@@ -60,13 +61,22 @@ abbrev pub CameTo : Table → Table → ℕ → Result Effect Full → Type 0
 CameTo old new row (Ok came) = IsDone old new row came
 CameTo old new row (Err why) = IsShort old new row
 
--- a number was wanting, and this one is kept, which is above the last of a phase
+-- the row is dirty now, and all else is as it was
+pub record IsDirtied (old new : Table) (row : ℕ) : Type 0 where
+  pub opened : Opened
+  pub at : slice_get old.rows.items row ≡ Some opened
+  pub rest : new ≡ record old { rows = new.rows }
+  pub rows : new.rows.items ≡ slice_set old.rows.items row (record opened { colour = Dirty })
+
+-- a number was wanting: the effect is dirty, and this number is kept, which is above the last of a phase
 pub record IsLeft (old new : Table) (row number : ℕ) : Type 0 where
   pub short : Table
   pub stopped : IsShort old short row
-  pub filled : IsFilled short new number
+  pub dirty : Table
+  pub dirtied : IsDirtied short dirty row
+  pub filled : IsFilled dirty new number
   -- once such a number is kept, no more is drawn
-  pub once : (kept : ℕ) → old.full ≡ Some kept → new ≡ short
+  pub once : (kept : ℕ) → old.full ≡ Some kept → new ≡ dirty
 
 -- ---- the rows, one by one
 

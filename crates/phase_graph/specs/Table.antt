@@ -22,7 +22,7 @@ use Rattle.sources.specs.Colours.{is_clean}
 use Rattle.sources.specs.Rows.{value_in, IsGood, IsDated, IsRoomy}
 use Rattle.still_readers.specs.declared.readers.Readers.{Readers}
 use Rattle.still_readers.specs.Readers.{IsReadersOf, IsEnrolled}
-use Rattle.still_readers.specs.Marking.{IsDarkened, written_row}
+use Rattle.still_readers.specs.Marking.{IsDarkened, Reached, written_row}
 use Rattle.still_rows.specs.Clock.{IsNoted, IsTicked, now_of}
 use Rattle.still_rows.specs.Works.{IsStill, IsStepped, IsWorkOf}
 use Rattle.phase_graph.specs.declared.making.Parts.{Parts}
@@ -191,6 +191,7 @@ pub record IsWrittenIn (old new : Table) (signal : ℕ) (code : Code) (number : 
   pub was : Opened
   pub at : slice_get old.rows.items signal ≡ Some was
   pub written : (row : Opened) → slice_get old.rows.items signal ≡ Some row → IsDarkened (slice_set old.rows.items signal (written_row row (packed code) (now_of new.clock))) new.rows.items
+  pub others : (i : ℕ) → i ≢ signal → ¬ Reached old.readers signal i → slice_get new.rows.items i ≡ slice_get old.rows.items i
 
 -- the row keeps its value as this word or not
 pub record HasWord (t : Table) (row word : ℕ) (is : Bool) : Type 0 where
@@ -222,10 +223,22 @@ begun t list = record t { clock = record { base = t.clock.base + t.clock.drawn; 
 abbrev pub ended : Table → Reserve Noted → Table
 ended t list = record t { clock = record { base = t.clock.base + t.clock.drawn; drawn = 0; in_phase = false; entries = list }; full = None }
 
+-- the table that counts numbers anew
+abbrev pub rebased : Table → Table
+rebased t = record t { clock = record t.clock { base = t.clock.base + t.clock.drawn; drawn = 0 }; full = None }
+
 -- every memo is up to date
 pub record IsSettled (old new : Table) : Type 0 where
   pub stirred : IsStirred old new
   pub memos : (i : ℕ) (node : PlanNode) (row : Opened) → slice_get old.plan.nodes i ≡ Some node → slice_get new.rows.items i ≡ Some row → node.kind ≡ Memo → (is_clean row.colour ≡ true) × (unpacked row.code ≡ plan_value old.plan.nodes (value_in old.rows.items) i)
+
+-- every memo below `to` is up to date, and only rows from `from` up to `to` were touched
+pub record IsSpanSettled (old new : Table) (from to : ℕ) : Type 0 where
+  pub stirred : IsStirred old new
+  pub below : (i : ℕ) → i < from → slice_get new.rows.items i ≡ slice_get old.rows.items i
+  pub past : (i : ℕ) → to ≤ i → slice_get new.rows.items i ≡ slice_get old.rows.items i
+  pub drawn : new.clock.drawn ≤ old.clock.drawn + (to - from)
+  pub memos : (i : ℕ) (node : PlanNode) (row : Opened) → i < to → slice_get old.plan.nodes i ≡ Some node → slice_get new.rows.items i ≡ Some row → node.kind ≡ Memo → (is_clean row.colour ≡ true) × (unpacked row.code ≡ plan_value old.plan.nodes (value_in old.rows.items) i)
 
 -- a row before anything ran, with its value where it is not derived
 pub record IsGivenRow (derived : Bool) (code : Code) (old new : Opened) : Type 0 where

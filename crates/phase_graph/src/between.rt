@@ -1,5 +1,5 @@
 //! What is done between phases.
-ghost use Rattle.std.specs.Prelude.{◌≡◌, ◌≢◌, ◌≤◌, ◌<◌, ◌+◌, ◌^◌, ℕ, true, false, [], length, slice_get, Some, None, IfOk, OnOk, OnErr};
+ghost use Rattle.std.specs.Prelude.{◌≡◌, ◌≢◌, ◌≤◌, ◌<◌, ◌+◌, ◌-◌, ◌^◌, ℕ, true, false, [], length, slice_get, Some, None, IfOk, OnOk, OnErr};
 ghost use Rattle.values.specs.declared.plan.Kind.TheVariants as kind;
 ghost use Rattle.values.specs.declared.plan.PlanNode.{PlanNode as NodeValue};
 ghost use Rattle.values.specs.Packing.{unpacked};
@@ -9,7 +9,7 @@ ghost use Rattle.sources.specs.declared.opening.Opened.{Opened as OpenedValue};
 ghost use Rattle.sources.specs.Colours.{is_clean};
 ghost use Rattle.sources.specs.Rows.{value_in};
 ghost use Rattle.run_history.specs.Going.{Start, just_opened};
-ghost use Rattle.phase_graph.specs.Graph.{ticks_of};
+ghost use Rattle.phase_graph.specs.Graph.{ticks_of, AreSettledTo};
 ghost use Rattle.phase_graph.specs.Way.{IsOnWay, OpensWith, no_edits};
 ghost use Rattle.phase_graph.specs.Table.{HaveRoom, edit_lists};
 
@@ -55,7 +55,7 @@ impl Graph {
     /// Brings every memo up to date. No effect runs. It takes no memory and always succeeds.
     pub fn settle(&mut self)
         requires closed { self.old.is_open ≡ false }
-        requires few { self.old.drawn ≤ 8192 }
+        requires few { self.old.drawn ≤ 61440 }
         requires ticks { self.old.base < 2 ^ 62 }
         ensures rest { self.new ≡ record self.old { rows = self.new.rows; drawn = self.new.drawn } }
         ensures ticks { self.old.drawn ≤ self.new.drawn × self.new.drawn ≤ self.old.drawn + length self.old.plan.nodes }
@@ -65,6 +65,39 @@ impl Graph {
         ensures values { plan_value self.old.plan.nodes (value_in self.new.rows) ≡ plan_value self.old.plan.nodes (value_in self.old.rows) }
     {
         self.table.settle();
+    }
+
+    /// Brings the memos of the rows from one up to another up to date, where all memos before them are. Only these rows
+    /// are touched, and no effect runs. It takes no memory and always succeeds.
+    pub fn settle_span(&mut self, from: u32, to: u32)
+        requires closed { self.old.is_open ≡ false }
+        requires few { self.old.drawn ≤ 61440 }
+        requires ticks { self.old.base < 2 ^ 62 }
+        requires span { from ≤ to }
+        requires within { to ≤ length self.old.plan.nodes }
+        requires behind { AreSettledTo self.old.plan.nodes self.old.rows from }
+        ensures rest { self.new ≡ record self.old { rows = self.new.rows; drawn = self.new.drawn } }
+        ensures ticks { (self.old.drawn ≤ self.new.drawn) × (self.new.drawn ≤ self.old.drawn + (to - from)) }
+        ensures long { length self.new.rows ≡ length self.old.rows }
+        ensures memos { (n : ℕ) (node : NodeValue) (row : OpenedValue) → n < to → slice_get self.old.plan.nodes n ≡ Some node → slice_get self.new.rows n ≡ Some row → node.kind ≡ kind.Memo → (is_clean row.colour ≡ true) × (unpacked row.code ≡ plan_value self.old.plan.nodes (value_in self.old.rows) n) }
+        ensures below { (n : ℕ) → n < from → slice_get self.new.rows n ≡ slice_get self.old.rows n }
+        ensures past { (n : ℕ) → to ≤ n → slice_get self.new.rows n ≡ slice_get self.old.rows n }
+        ensures sources { (n : ℕ) (node : NodeValue) → slice_get self.old.plan.nodes n ≡ Some node → is_derived node.kind ≡ false → slice_get self.new.rows n ≡ slice_get self.old.rows n }
+        ensures effects { (n : ℕ) (node : NodeValue) → slice_get self.old.plan.nodes n ≡ Some node → node.kind ≡ kind.Effect → slice_get self.new.rows n ≡ slice_get self.old.rows n }
+        ensures values { plan_value self.old.plan.nodes (value_in self.new.rows) ≡ plan_value self.old.plan.nodes (value_in self.old.rows) }
+    {
+        self.table.settle_span(from, to);
+    }
+
+    /// Counts anew from here: the count of ticks is the base, and no number is drawn yet. Who read what before, and not
+    /// in its last run, is no reader any more. It takes no memory.
+    pub fn rebase(&mut self)
+        requires closed { self.old.is_open ≡ false }
+        requires ticks { ticks_of self.old < 2 ^ 62 }
+        ensures { self.new ≡ record self.old { base = ticks_of self.old; drawn = 0 } }
+    {
+        self.table.subscribe();
+        self.table.rebase();
     }
 
     /// Opens a phase of so many passes, each of which may note so many edits. All memory that the calls of the phase

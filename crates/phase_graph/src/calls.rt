@@ -5,7 +5,7 @@ ghost use Rattle.values.specs.declared.plan.Noted.{Noted as NotedValue};
 ghost use Rattle.script_items.specs.Script.{numbered};
 ghost use Rattle.run_history.specs.Going.{Start, Going};
 ghost use Rattle.run_history.specs.Calls.{set, get, pump, dispose, edit, Calls};
-ghost use Rattle.phase_graph.specs.Graph.{StaysOpen, edits_with};
+ghost use Rattle.phase_graph.specs.Graph.{StaysOpen, AreRunOrLeft, edits_with};
 ghost use Rattle.phase_graph.specs.Way.{IsOnWay, AreHome};
 
 use crate::edits::edit_in;
@@ -42,12 +42,13 @@ impl Graph {
     }
 
     /// Runs each effect that needs a run, in order of row. An effect whose owner is disposed is passed over. One that
-    /// finds no number is left for a later call.
+    /// finds no number is left for a later call, and is dirty then.
     pub fn pump(&mut self) -> Pumped
         requires open { self.old.is_open ≡ true }
         ensures stays { StaysOpen self.old self.new }
         ensures edits { self.new.edits ≡ self.old.edits }
         ensures live { self.new.live ≡ self.old.live }
+        ensures effects { AreRunOrLeft self.old.plan.nodes self.old.live self.new.rows }
         ensures call { (s : Start) (g : Going) (pass : ℕ) → AreHome s → IsOnWay s g self.old → (block : List NotedValue) × (h : Going) × Calls s g block h pass (pump result) × IsOnWay s h self.new }
     {
         self.table.pump()

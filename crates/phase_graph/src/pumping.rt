@@ -1,12 +1,16 @@
 //! Runs of effects.
-ghost use Rattle.std.specs.Prelude.{◌≡◌, ◌≤◌, ◌<◌, ◌+◌, ℕ, true, length};
+ghost use Rattle.std.specs.Prelude.{◌≡◌, ◌≤◌, ◌<◌, ◌+◌, ℕ, true, false, length, slice_get, Some};
 ghost use Rattle.plain_evaluation.specs.Sound.{is_effect};
+ghost use Rattle.sources.specs.declared.opening.Opened.{Opened as OpenedValue};
+ghost use Rattle.sources.specs.Colours.{is_clean};
 ghost use Rattle.still_effects.specs.Effects.{IsEffect};
 ghost use Rattle.run_history.specs.Calls.{pump};
+ghost use Rattle.phase_graph.specs.Graph.{AreRunOrLeft};
 ghost use Rattle.phase_graph.specs.Table.{IsTable, IsKept, MakesHome};
-ghost use Rattle.phase_graph.specs.Pumping.{IsEffectOf, CameTo, TurnedAs, counted};
+ghost use Rattle.phase_graph.specs.Pumping.{IsEffectOf, IsDirtied, CameTo, TurnedAs, counted};
 
 use crate::table::Table;
+use sources::Colour;
 use still_effects::{Effect, run_effect};
 use still_rows::Full;
 use values::{Code, Kind, Left, Pumped};
@@ -33,6 +37,7 @@ impl Table {
         requires open { self.old.clock.in_phase ≡ true }
         ensures kept { IsKept self.old self.new }
         ensures live { self.new.live ≡ self.old.live }
+        ensures effects { AreRunOrLeft self.old.plan.nodes self.old.live.items self.new.rows.items }
         ensures call { (pass : ℕ) → MakesHome self.old self.new pass (pump result) }
     {
         let mut told = Pumped {
@@ -89,8 +94,23 @@ impl Table {
         match self.try_effect(row) {
             Ok(Effect::Same) => Turn::Same,
             Ok(Effect::Ran(code)) => Turn::Ran(code),
-            Err(Full) => Turn::Left(self.fill()),
+            Err(Full) => {
+                self.soil(row);
+                Turn::Left(self.fill())
+            }
         }
+    }
+
+    /// An effect that is left is dirty from now on.
+    fn soil(&mut self, row: u32)
+        requires table { IsTable self.old }
+        requires open { self.old.clock.in_phase ≡ true }
+        requires row { row < length self.old.plan.nodes }
+        requires unclean { (opened : OpenedValue) → slice_get self.old.rows.items row ≡ Some opened → is_clean opened.colour ≡ false }
+        ensures table { IsTable self.new }
+        ensures dirtied { IsDirtied self.old self.new row }
+    {
+        self.rows[row as usize].colour = Colour::Dirty;
     }
 
     /// Runs an effect where it needs a run, as far as there are numbers.

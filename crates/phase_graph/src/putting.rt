@@ -1,5 +1,7 @@
 //! Values that sources are given between phases.
-ghost use Rattle.std.specs.Prelude.{◌≡◌, ◌≢◌, ◌≤◌, ◌<◌, ◌+◌, ◌^◌, ℕ, true, false, length, slice_get, Some, IsSomeAnd};
+ghost use Rattle.std.specs.Prelude.{◌≡◌, ◌≢◌, ◌≤◌, ◌<◌, ◌+◌, ◌^◌, ℕ, true, false, length, slice_get, Some, IsSomeAnd, Contains};
+ghost use Rattle.values.specs.declared.plan.PlanNode.{PlanNode as NodeValue};
+ghost use Rattle.values.specs.Plan.{rows_in};
 ghost use Rattle.values.specs.Packing.{unpacked};
 ghost use Rattle.values.specs.PlanValues.{is_derived};
 ghost use Rattle.sources.specs.declared.opening.Opened.{Opened as OpenedValue};
@@ -24,6 +26,7 @@ impl Graph {
         ensures value { (r : OpenedValue) → slice_get self.new.rows row ≡ Some r → unpacked r.code ≡ code }
         ensures same { (r : OpenedValue) → slice_get self.old.rows row ≡ Some r → unpacked r.code ≡ code → self.new ≡ self.old }
         ensures others { (n : ℕ) (one two : OpenedValue) → n ≢ row → slice_get self.old.rows n ≡ Some one → slice_get self.new.rows n ≡ Some two → two ≡ record one { colour = two.colour } }
+        ensures settled { (bound : ℕ) → ((n : ℕ) (node : NodeValue) → slice_get self.old.plan.nodes n ≡ Some node → Contains (rows_in node.expr) row → is_derived node.kind ≡ true → bound ≤ n) → (n : ℕ) → n < bound → n ≢ row → slice_get self.new.rows n ≡ slice_get self.old.rows n }
     {
         self.table.renew(row, code);
     }

@@ -63,7 +63,7 @@ darkened_one rows m y0 direct here = record {
         subst (λ (q : Opened). IsDarker q new) (sym s) (subst (λ (q : Opened). IsDarker y0 q) (sym f) record { same = refl; unclean = (λ _. darkened_unclean direct y0.colour); dirty = darkened_dirty direct y0.colour })
     by i old new o (inr (n', at)) = subst (λ (q : Opened). IsDarker old q) (one_at old new o at) record { same = refl; unclean = (λ v. v); dirty = (λ d. d) }
 
-recorded_darkened : (rows rows' : List Opened) (i : ℕ) (x : Read) → IsDarkened rows rows' → IsRecorded rows i x → IsRecorded rows' i x
+pub recorded_darkened : (rows rows' : List Opened) (i : ℕ) (x : Read) → IsDarkened rows rows' → IsRecorded rows i x → IsRecorded rows' i x
 recorded_darkened rows rows' i x re known = record {
   below = known.below;
   is_packed = known.is_packed;

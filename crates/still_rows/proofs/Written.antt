@@ -24,7 +24,7 @@ pub record IsWritten (rows : List Opened) (m : ℕ) (old new : Opened) : Type 0 
   pub grows : old.version ≤ new.version
   pub stays : new.version ≡ old.version → new.code ≡ old.code
 
-present_kept : (rows : List Opened) (m : ℕ) (y0 y : Opened) (x : Read) → slice_get rows m ≡ Some y0 → is_clean y0.colour ≡ false → IsPresent rows x → IsPresent (set rows m y) x
+pub present_kept : (rows : List Opened) (m : ℕ) (y0 y : Opened) (x : Read) → slice_get rows m ≡ Some y0 → is_clean y0.colour ≡ false → IsPresent rows x → IsPresent (set rows m y) x
 present_kept rows m y0 y x here unclean present = record {
   version = (λ z at. by z (which rows m y0 y x.row z here at) (x.version ≡ z.version) (λ n. present.version z n));
   clean = (λ z at. by z (which rows m y0 y x.row z here at) (is_clean z.colour ≡ true) (λ n. present.clean z n));

@@ -1,6 +1,6 @@
 use Rattle.std.proofs.Common.{◌≡◌, ℕ, ap, length, subst, ◌∙◌, arith}
 use Rattle.values.specs.declared.plan.Plan.{Plan}
-use Rattle.phase_graph.proofs.Pumps.{ArePumped, pump_begins, pump_on, pump_ends}
+use Rattle.phase_graph.proofs.Pumps.{ArePumped, pump_begins, pump_on, pump_ends, pump_leaves}
 use Rattle.phase_graph.proofs.table.Table.pump.Goals as goal
 
 pub loop-row-init : goal.loop-row-init
@@ -18,3 +18,13 @@ returns-clause-call c = λ pass.
     let few = c.requires.table.lawful.few_nodes in
     let last : c.loop-row.row ≡ length c.loop-row.self.plan.nodes = omega arith in
     pump_ends c.args.self.now c.loop-row.self pass c.loop-row.told c.requires.table c.requires.open (subst (λ (k : ℕ). ArePumped c.args.self.now c.loop-row.self k c.loop-row.told) last c.loop-row.invariant)
+
+pub returns-clause-effects : goal.returns-clause-effects
+returns-clause-effects c =
+    let plan = ap (λ (q : Plan). length q.nodes) c.loop-row.invariant.kept.plan in
+    let l = c.loop-row.invariant.within in
+    let t = c.loop-row-test.false in
+    let n = ap length c.as_slice.ensures in
+    let few = c.requires.table.lawful.few_nodes in
+    let last : c.loop-row.row ≡ length c.loop-row.self.plan.nodes = omega arith in
+    pump_leaves c.args.self.now c.loop-row.self c.loop-row.told (subst (λ (k : ℕ). ArePumped c.args.self.now c.loop-row.self k c.loop-row.told) last c.loop-row.invariant)

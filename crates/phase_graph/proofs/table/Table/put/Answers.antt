@@ -24,4 +24,4 @@ returns-clause-written c =
     let nodes = ap length c.as_slice.ensures in
     let was = within_at c.as_mut_slice.result.now c.args.signal (omega arith) in
     written_of c.args.self.now _ c.args.signal c.args.code c.set.result c.as_slice.result.now c.as_mut_slice.result.now c.set.new.rows c.as_slice.ensures c.as_mut_slice.ensures.value
-    (sym (with_items_is c.args.self.now.rows c.set.new.rows (p ∙ sym q ∙ c.as_mut_slice.ensures.len))) refl refl refl e.still e.work e.ticked e.number (ap unpacked (sym c.pack-word.ensures.word) ∙ c.pack-word.ensures.value) was.0 was.1 e.written
+    (sym (with_items_is c.args.self.now.rows c.set.new.rows (p ∙ sym q ∙ c.as_mut_slice.ensures.len))) refl refl refl e.still e.work e.ticked e.number (ap unpacked (sym c.pack-word.ensures.word) ∙ c.pack-word.ensures.value) was.0 was.1 e.written e.others

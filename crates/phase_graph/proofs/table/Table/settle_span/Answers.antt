@@ -1,0 +1,9 @@
+use Rattle.phase_graph.proofs.Steps.{all_done}
+use Rattle.phase_graph.proofs.Tables.{stirred_table}
+use Rattle.phase_graph.proofs.table.Table.settle_span.Goals as goal
+
+pub returns-clause-table : goal.returns-clause-table
+returns-clause-table c = stirred_table c.args.self.now c.stir_span.new.self c.requires.table c.stir_span.ensures.stirred
+
+pub returns-clause-settled : goal.returns-clause-settled
+returns-clause-settled c = all_done c.args.self.now c.stir_span.new.self c.stir_span.result c.requires.table c.requires.few c.stir_span.ensures.stirred c.stir_span.ensures.full c.stir_span.ensures.left c.stir_span.ensures.settled
