@@ -11,7 +11,7 @@ use Rattle.sources.specs.Rows.{IsGood}
 use Rattle.still_readers.specs.declared.readers.Reader.{Reader}
 use Rattle.still_readers.specs.declared.readers.Span.{Span}
 use Rattle.still_readers.specs.declared.readers.Readers.{Readers}
-use Rattle.still_readers.specs.Readers.{stands_in, has_recorded, recorded_by, HasRead, IsLast, StandsFor, IsOwn, IsReader, IsReadersOf, IsEnrolled, IsReflagged, IsEnrolledAt, IsPlaceIn, IsNoneIn, IsExact}
+use Rattle.still_readers.specs.Readers.{stands_in, has_recorded, recorded_by, HasRead, IsLast, StandsFor, IsOwn, IsReader, IsReadersOf, IsEnrolled, IsReflagged, IsEnrolledAt, IsPlaceIn, IsNoneIn, IsReadIn, IsExact}
 use Rattle.still_readers.proofs.Lists.{within_at, at_within, set_here, one_at, which}
 
 pub row_in : (reads : List Read) (k : ℕ) (x : Read) → slice_get reads k ≡ Some x → Contains (rows_read reads) x.row
@@ -176,6 +176,15 @@ enrolled_none node row r is = record {
       let s = within_at r.spans node (omega arith) in
       let stands = (of_plan.spanned node s.0 s.1).named n at d row c l in
       absurd (is.none s.0 s.1 stands.place stands.reader stands.from_on stands.below stands.at stands.of_row));
+}
+
+-- a node that has read the row is enrolled at it as it is
+pub enrolled_there : (node row : ℕ) (r : Readers) → IsReadIn r node row → IsEnrolledAt node row r r
+enrolled_there node row r there = let o = there.own in record {
+  same = reflagged_same r;
+  stays = (λ n q h. h);
+  alone = (λ k u v a b other. sym (one_at u v a b));
+  enrolled = (λ nodes is n at d c w. record { place = o.place; reader = there.reader; at = o.at; below = at_within r.list o.place there.reader o.at; of_node = (is.spanned node o.span o.is_span).own o.place there.reader o.from_on o.below o.at; of_row = there.of_row; enrolled = there.enrolled });
 }
 
 -- one flag more says what is recorded

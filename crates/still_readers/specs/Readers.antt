@@ -110,6 +110,22 @@ pub record IsPlaceIn (readers : Readers) (node row place : ℕ) : Type 0 where
   pub within : place < length readers.list
   pub of_row : (u : Reader) → slice_get readers.list place ≡ Some u → u.row ≡ row
 
+-- one of the node's readers
+pub record IsOwnReader (readers : Readers) (node : ℕ) (reader : Reader) : Type 0 where
+  pub span : Span
+  pub is_span : slice_get readers.spans node ≡ Some span
+  pub place : ℕ
+  pub from_on : span.from ≤ place
+  pub below : place < span.to
+  pub at : slice_get readers.list place ≡ Some reader
+
+-- one of the node's readers is of the row, and has read it
+pub record IsReadIn (readers : Readers) (node row : ℕ) : Type 0 where
+  pub reader : Reader
+  pub own : IsOwnReader readers node reader
+  pub of_row : reader.row ≡ row
+  pub enrolled : reader.enrolled ≡ true
+
 pub record IsNoneIn (readers : Readers) (node row : ℕ) : Type 0 where
   pub none : (s : Span) → slice_get readers.spans node ≡ Some s → (k : ℕ) (u : Reader) → s.from ≤ k → k < s.to → slice_get readers.list k ≡ Some u → u.row ≢ row
 

@@ -4,7 +4,7 @@ ghost use Rattle.values.specs.declared.plan.PlanNode.{PlanNode as NodeValue};
 ghost use Rattle.sources.specs.Bodies.{rows_read};
 ghost use Rattle.sources.specs.Rows.{IsGood};
 ghost use Rattle.still_readers.specs.declared.readers.Reader.{Reader as ReaderValue};
-ghost use Rattle.still_readers.specs.Readers.{stands_in, has_recorded, IsReadersOf, IsEnrolled, HasRead, IsEnrolledAt, IsReflagged, IsPlaceIn, IsNoneIn, IsExact};
+ghost use Rattle.still_readers.specs.Readers.{stands_in, has_recorded, IsReadersOf, IsEnrolled, HasRead, IsEnrolledAt, IsReflagged, IsPlaceIn, IsNoneIn, IsOwnReader, IsReadIn, IsExact};
 
 use sources::{Opened, Read};
 use values::Sequence;
@@ -49,6 +49,43 @@ impl Readers {
         match self.place_of(node, row) {
             Some(place) => self.flag(place, true),
             None => {}
+        }
+    }
+
+    /// The same, where the row is likely the one of the node's reader at this place, counted from its
+    /// first one. There it takes one look.
+    pub fn enrol_read(&mut self, node: u32, row: u32, place: usize)
+        ensures at { IsEnrolledAt node row self.old self.new }
+        ensures of_plan { (nodes : List NodeValue) → IsReadersOf nodes self.old → IsReadersOf nodes self.new }
+    {
+        if self.has_read_at(node, row, place) {
+            return;
+        }
+        self.enrol(node, row);
+    }
+
+    /// Whether the node's reader at this place, counted from its first one, has read the row.
+    fn has_read_at(&self, node: u32, row: u32, place: usize) -> bool
+        ensures { result ≡ true → IsReadIn self.now node row }
+    {
+        match self.reader_at(node, place) {
+            Some(reader) => has_read(reader, row),
+            None => false,
+        }
+    }
+
+    /// The node's reader at this place, counted from its first one.
+    fn reader_at(&self, node: u32, place: usize) -> Option<Reader>
+        ensures { IfSome result (λ reader. IsOwnReader self.now node reader) }
+    {
+        let span = self.spans.at(node as usize)?;
+        let at = span.from.checked_add(place)?;
+        if at >= span.to {
+            return None;
+        }
+        match self.list.at(at) {
+            Some(reader) => Some(*reader),
+            None => None,
         }
     }
 
@@ -119,6 +156,13 @@ impl Readers {
             None => false,
         }
     }
+}
+
+/// Whether the reader is of this row, and has read it.
+fn has_read(reader: Reader, row: u32) -> bool
+    ensures { result ≡ true → (reader.row ≡ row) × (reader.enrolled ≡ true) }
+{
+    reader.row == row && reader.enrolled
 }
 
 /// Whether a row stands among the reads.

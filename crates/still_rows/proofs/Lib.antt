@@ -7,3 +7,4 @@ pub mod WorksLemmas
 pub mod SetLemmas
 pub mod FreshLemmas
 pub mod LawfulLemmas
+pub mod LedLemmas

@@ -2,6 +2,7 @@
 use Rattle.std.specs.Prelude.{◌≡◌, ◌≢◌, ℕ, ◌+◌, ◌-◌, ◌<◌, ◌≤◌, true, false, if◌then◌else◌, List, [], ◌∷◌, slice_get, length, Some, None, Contains}
 use Rattle.values.specs.declared.code.Code.{Code}
 use Rattle.values.specs.declared.plan.PlanNode.{PlanNode}
+use Rattle.values.specs.declared.tried.Tried.{Tried}
 use Rattle.values.specs.Plan.{names_of, rows_in}
 use Rattle.values.specs.PlanValues.{plan_value}
 use Rattle.values.specs.Evaluation.{value_of, reads_of}
@@ -15,7 +16,7 @@ use Rattle.work_order.specs.declared.frame.Due.TheVariants.{Not, First, Differs}
 use Rattle.work_order.specs.declared.frame.Frame.{Frame}
 use Rattle.work_order.specs.declared.order.Next.{Next}
 use Rattle.work_order.specs.declared.order.Next.TheVariants as next
-use Rattle.work_order.specs.Order.{is_due}
+use Rattle.work_order.specs.Order.{is_due, next_of, cleared_frame, compared_frame}
 use Rattle.still_rows.specs.declared.moves.Moved.{Moved}
 use Rattle.still_rows.specs.declared.moves.Moved.TheVariants as to
 use Rattle.still_rows.specs.Frames.{IsConfirmed, IsFrame}
@@ -73,3 +74,25 @@ MovesTo nodes rows node row f reads (to.Finish code) = IsRun nodes rows node f c
 abbrev pub IsLook : List Opened → Opened → Frame → Opened → Type 0
 IsLook rows row f source = (f.due ≡ Not) × (f.at < length row.body.reads.list) × (f.cleared ≡ true → is_clean source.colour ≡ true)
     × ((x : Read) → slice_get row.body.reads.list f.at ≡ Some x → slice_get rows x.row ≡ Some source)
+
+-- what is next on a frame of which no run is due, whatever was read
+abbrev pub IsNext : Opened → Frame → Next → Type 0
+IsNext row f step = (tried : Tried) → next_of tried row.colour row.body.reads.list f ≡ step
+
+-- The frames to which the order of work leads from this one, by steps that write no row: a source is compared as it is before the node is cleared, and once it is clean after.
+pub data LeadsTo (rows : List Opened) (row : Opened) (f : Frame) : Frame → Type 0 where
+  start : LeadsTo rows row f f
+  clears : (g : Frame) → LeadsTo rows row f g → IsNext row g next.Clear → LeadsTo rows row f (cleared_frame g)
+  compares : (g : Frame) (x : Read) (y : Opened) → LeadsTo rows row f g → IsNext row g (next.Compare g.at) → slice_get row.body.reads.list g.at ≡ Some x → slice_get rows x.row ≡ Some y → LeadsTo rows row f (compared_frame g x.version y.version)
+  checks : (g : Frame) (x : Read) (y : Opened) → LeadsTo rows row f g → IsNext row g (next.Check x.row) → slice_get row.body.reads.list g.at ≡ Some x → slice_get rows x.row ≡ Some y → is_clean y.colour ≡ true → LeadsTo rows row f (compared_frame g x.version y.version)
+
+-- a frame that the order of work led to: it holds, and no more is left to do
+pub record IsLed (nodes : List PlanNode) (rows : List Opened) (row : Opened) (f g : Frame) : Type 0 where
+  pub steps : LeadsTo rows row f g
+  pub node : g.node ≡ f.node
+  pub frame : IsFrame nodes rows g
+  pub less : work_left row g ≤ work_left row f
+
+-- where no run is due the next recorded source, if there is one, is not clean
+abbrev pub IsStopped : List Opened → Opened → Frame → Type 0
+IsStopped rows row f = f.due ≡ Not → (x : Read) → slice_get row.body.reads.list f.at ≡ Some x → (y : Opened) → slice_get rows x.row ≡ Some y → is_clean y.colour ≡ false

@@ -7,17 +7,18 @@ ghost use Rattle.sources.specs.Colours.{is_clean};
 ghost use Rattle.sources.specs.Rows.{IsGood};
 ghost use Rattle.work_order.specs.Order.{first_frame};
 ghost use Rattle.still_rows.specs.Frames.{AreLawful, IsFrame, IsMemo};
+ghost use Rattle.still_rows.specs.Moves.{LeadsTo, IsStopped};
 ghost use Rattle.still_rows.specs.Shown.{HasRoom};
 ghost use Rattle.still_rows.specs.Works.{IsStack, IsStill, IsStepped, IsOnward, StayPast, unclean_count, HasUncleanMemo, work_of, EndsAs};
 
 use crate::clock::{Clock, Full};
-use crate::moves::{Moved, advance, row_at};
+use crate::moves::{lead, next_of_frame, node_at, row_at};
 use crate::stack::Stack;
 use crate::writes::{finish, keep};
 use sources::{Opened, Reads};
 use still_readers::Readers;
 use values::{Code, PlanNode};
-use work_order::Frame;
+use work_order::{Frame, Next};
 
 /// How the work on one frame ends for now.
 #[derive(Clone, Copy, Debug)]
@@ -37,8 +38,39 @@ pub struct Gone {
     pub ended: Ended,
 }
 
-/// Steps on one frame, until a source comes first or the node is done.
-pub fn go_on(nodes: &[PlanNode], rows: &[Opened], reads: &mut Reads, mut frame: Frame) -> Gone
+/// How the work on a frame ends for now, where the order of work leads no further without a write.
+fn end(
+    nodes: &[PlanNode],
+    rows: &[Opened],
+    reads: &mut Reads,
+    node: &PlanNode,
+    row: &Opened,
+    frame: Frame,
+) -> Ended
+    requires lawful { AreLawful nodes.now }
+    requires good { IsGood nodes.now rows.now }
+    requires frame { IsFrame nodes.now rows.now frame }
+    requires node { slice_get nodes.now frame.node ≡ Some node.now }
+    requires row { slice_get rows.now frame.node ≡ Some row.now }
+    requires cleared { frame.cleared ≡ true }
+    requires stopped { IsStopped rows.now row.now frame }
+    requires room { HasRoom nodes.now reads.old }
+    ensures room { room_of reads.new ≡ room_of reads.old }
+    ensures ended { EndsAs nodes.now rows.now node.now row.now frame reads.new.list result }
+{
+    match next_of_frame(nodes, rows, reads, node, row, frame) {
+        Next::Answer => Ended::Keep,
+        Next::Compare(_) => Ended::Keep,
+        Next::Clear => Ended::Keep,
+        Next::Check(from) => Ended::Below(from),
+        Next::Read(from) => Ended::Below(from),
+        Next::Keep => Ended::Keep,
+        Next::Finish(code) => Ended::Finish(code),
+    }
+}
+
+/// The work on one frame by the order of work, until a source comes first or the node is done.
+pub fn go_on(nodes: &[PlanNode], rows: &[Opened], reads: &mut Reads, frame: Frame) -> Gone
     requires lawful { AreLawful nodes.now }
     requires good { IsGood nodes.now rows.now }
     requires frame { IsFrame nodes.now rows.now frame }
@@ -46,27 +78,16 @@ pub fn go_on(nodes: &[PlanNode], rows: &[Opened], reads: &mut Reads, mut frame: 
     ensures room { room_of reads.new ≡ room_of reads.old }
     ensures node { result.frame.node ≡ frame.node }
     ensures frame { IsFrame nodes.now rows.now result.frame }
+    ensures steps { (row : OpenedValue) → slice_get rows.now frame.node ≡ Some row → LeadsTo rows.now row frame result.frame }
     ensures less { work_of (slice_get rows.now frame.node) result.frame ≤ work_of (slice_get rows.now frame.node) frame }
     ensures ended { (node : NodeValue) (row : OpenedValue) → slice_get nodes.now result.frame.node ≡ Some node →
         slice_get rows.now result.frame.node ≡ Some row → EndsAs nodes.now rows.now node row result.frame reads.new.list result.ended }
 {
-    loop {
-        match advance(nodes, rows, reads, frame) {
-            Moved::On(next) => frame = next,
-            Moved::Below(source) => {
-                let ended = Ended::Below(source);
-                return Gone { frame, ended };
-            }
-            Moved::Keep => {
-                let ended = Ended::Keep;
-                return Gone { frame, ended };
-            }
-            Moved::Finish(code) => {
-                let ended = Ended::Finish(code);
-                return Gone { frame, ended };
-            }
-        }
-    }
+    let node = node_at(nodes, frame.node);
+    let row = row_at(rows, frame.node);
+    let led = lead(nodes, rows, node, row, frame);
+    let ended = end(nodes, rows, reads, node, row, led);
+    Gone { frame: led, ended }
 }
 
 /// One turn of the top frame: it goes on until a source comes first, or until its row is written.

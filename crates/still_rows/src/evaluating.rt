@@ -25,6 +25,7 @@ pub(crate) struct Missing {
 /// The value, where each row that it takes is clean. `reads` then has these rows behind what it had,
 /// each once.
 #[tactic(auto, using(crate::proofs::EvaluatingLemmas::fits_read, crate::proofs::EvaluatingLemmas::fits_binary, crate::proofs::EvaluatingLemmas::fits_if, crate::proofs::EvaluatingLemmas::room_left, crate::proofs::EvaluatingLemmas::room_right, crate::proofs::EvaluatingLemmas::room_test, crate::proofs::EvaluatingLemmas::room_first, crate::proofs::EvaluatingLemmas::room_second))]
+#[cycle(parts)]
 pub(crate) fn evaluate(expr: &Expr, rows: &[Opened], reads: &mut Reads) -> Result<Code, Missing>
     requires room { length (rows_in expr.now) ≤ reads.old.spare }
     requires are_packed { ArePacked rows.now }
@@ -41,18 +42,41 @@ pub(crate) fn evaluate(expr: &Expr, rows: &[Opened], reads: &mut Reads) -> Resul
         Expr::Lit(code) => Ok(*code),
         Expr::Read(row) => read_row(rows, *row, reads),
         Expr::Binary(op, left, right) => {
-            let left = evaluate(left.get(), rows, reads)?;
-            let right = evaluate(right.get(), rows, reads)?;
+            let left = operand(left.get(), rows, reads)?;
+            let right = operand(right.get(), rows, reads)?;
             Ok(op.combine(left, right))
         }
         Expr::If(test, first, second) => {
-            let test = evaluate(test.get(), rows, reads)?;
+            let test = operand(test.get(), rows, reads)?;
             if test.truth() {
-                evaluate(first.get(), rows, reads)
+                operand(first.get(), rows, reads)
             } else {
-                evaluate(second.get(), rows, reads)
+                operand(second.get(), rows, reads)
             }
         }
+    }
+}
+
+/// The same of a part of an expression. One with no parts is looked at in place, without a further call.
+#[tactic(auto, using(crate::proofs::EvaluatingLemmas::fits_read, crate::proofs::EvaluatingLemmas::fits_binary, crate::proofs::EvaluatingLemmas::fits_if, crate::proofs::EvaluatingLemmas::room_left, crate::proofs::EvaluatingLemmas::room_right, crate::proofs::EvaluatingLemmas::room_test, crate::proofs::EvaluatingLemmas::room_first, crate::proofs::EvaluatingLemmas::room_second))]
+#[cycle(parts)]
+#[inline]
+fn operand(expr: &Expr, rows: &[Opened], reads: &mut Reads) -> Result<Code, Missing>
+    requires room { length (rows_in expr.now) ≤ reads.old.spare }
+    requires are_packed { ArePacked rows.now }
+    requires fresh { IsFresh rows.now reads.old.list }
+    ensures fresh { IsFresh rows.now reads.new.list }
+    ensures room { room_of reads.new ≡ room_of reads.old }
+    ensures spare { reads.old.spare ≤ reads.new.spare + length (rows_in expr.now) }
+    ensures value { (values : ℕ → CodeValue) → Agrees values (shown rows.now) →
+        MatchResult result
+        (λ code. (tried_of expr.now (shown rows.now) values ≡ Done code) × (rows_read reads.new.list ≡ noted (rows_read reads.old.list) (readings_of expr.now values)))
+        (λ missing. tried_of expr.now (shown rows.now) values ≡ Needs missing.row) }
+{
+    match expr {
+        Expr::Lit(code) => Ok(*code),
+        Expr::Read(row) => read_row(rows, *row, reads),
+        Expr::Binary(..) | Expr::If(..) => evaluate(expr, rows, reads),
     }
 }
 

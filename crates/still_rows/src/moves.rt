@@ -1,5 +1,5 @@
 //! The moves on one frame.
-ghost use Rattle.std.specs.Prelude.{◌≡◌, ◌<◌, ◌≤◌, ℕ, length, slice_get, Some, false, true, ◌++◌, ◌∷◌, []};
+ghost use Rattle.std.specs.Prelude.{◌≡◌, ◌<◌, ◌≤◌, ℕ, length, slice_get, Some, IfSome, IfNone, false, true, ◌++◌, ◌∷◌, []};
 ghost use Rattle.values.specs.declared.code.Code.{Code as CodeValue};
 ghost use Rattle.values.specs.declared.plan.PlanNode.{PlanNode as NodeValue};
 ghost use Rattle.values.specs.Attempt.{tried_of};
@@ -9,16 +9,17 @@ ghost use Rattle.values.specs.Reserved.{room_of};
 ghost use Rattle.sources.specs.declared.opening.Opened.{Opened as OpenedValue};
 ghost use Rattle.sources.specs.Bodies.{rows_read};
 ghost use Rattle.sources.specs.Rows.{IsGood, value_in};
-ghost use Rattle.work_order.specs.Order.{is_run};
+ghost use Rattle.sources.specs.declared.body.Read.{Read as ReadValue};
+ghost use Rattle.work_order.specs.Order.{compared_frame, is_run};
 ghost use Rattle.work_order.specs.declared.order.Next.TheVariants as next;
 ghost use Rattle.still_rows.specs.Frames.{AreLawful, IsFrame};
 ghost use Rattle.still_rows.specs.Shown.{shown, HasRoom, IsFresh};
-ghost use Rattle.still_rows.specs.Moves.{Says, MovesTo, IsLook};
+ghost use Rattle.still_rows.specs.Moves.{Says, MovesTo, IsLook, IsLed, IsStopped};
 
 use crate::evaluating::evaluate;
-use sources::{Opened, Read, Reads};
+use sources::{Colour, Opened, Read, Reads};
 use values::{Code, PlanNode, Tried};
-use work_order::{Frame, Next, next_on};
+use work_order::{Due, Frame, Next, next_on};
 
 /// What a move on a frame came to.
 #[derive(Clone, Copy, Debug)]
@@ -85,7 +86,7 @@ fn try_run(
 }
 
 /// What is next on a frame.
-fn next_of_frame(
+pub(crate) fn next_of_frame(
     nodes: &[PlanNode],
     rows: &[Opened],
     reads: &mut Reads,
@@ -106,6 +107,16 @@ fn next_of_frame(
     next_on(row.colour, row.body.reads.as_slice(), frame, tried)
 }
 
+/// The frame once the recorded source at its place is compared.
+fn looked(row: &Opened, frame: Frame, source: &Opened) -> Frame
+    requires { frame.at < length row.now.body.reads.list }
+    ensures { (read : ReadValue) → slice_get row.now.body.reads.list frame.at ≡ Some read →
+        result ≡ compared_frame frame read.version source.now.version }
+{
+    let read = read_at(row.body.reads.as_slice(), frame.at);
+    frame.compared(read.version, source.version)
+}
+
 /// The recorded source at the frame's place is compared.
 fn look(
     _nodes: &[PlanNode],
@@ -123,8 +134,7 @@ fn look(
     requires look { IsLook _rows.now row.now frame source.now }
     ensures { MovesTo _nodes.now _rows.now _node.now row.now frame _reads.now.list (Moved.On result) }
 {
-    let read = read_at(row.body.reads.as_slice(), frame.at);
-    frame.compared(read.version, source.version)
+    looked(row, frame, source)
 }
 
 /// A recorded source is compared as it is.
@@ -212,4 +222,136 @@ pub fn advance(nodes: &[PlanNode], rows: &[Opened], reads: &mut Reads, frame: Fr
         Next::Keep => Moved::Keep,
         Next::Finish(code) => Moved::Finish(code),
     }
+}
+
+/// The recorded source at the frame's place, as long as no run is due.
+fn recorded_next(row: &Opened, frame: Frame) -> Option<Read>
+    ensures some { IfSome result (λ read. (frame.due ≡ Due.Not) × (slice_get row.now.body.reads.list frame.at ≡ Some read)) }
+    ensures none { IfNone result (frame.due ≡ Due.Not → length row.now.body.reads.list ≤ frame.at) }
+{
+    match frame.due {
+        Due::Not => row.body.reads.as_slice().get(frame.at).copied(),
+        Due::First | Due::Differs => None,
+    }
+}
+
+/// The recorded sources of a dirty node are compared as they are, in order, up to the first that
+/// differs.
+fn compare_all(
+    _nodes: &[PlanNode],
+    rows: &[Opened],
+    _node: &PlanNode,
+    row: &Opened,
+    mut frame: Frame,
+) -> Frame
+    requires good { IsGood _nodes.now rows.now }
+    requires frame { IsFrame _nodes.now rows.now frame }
+    requires node { slice_get _nodes.now frame.node ≡ Some _node.now }
+    requires row { slice_get rows.now frame.node ≡ Some row.now }
+    requires dirty { row.now.colour ≡ Colour.Dirty }
+    requires begun { frame.cleared ≡ false }
+    ensures led { IsLed _nodes.now rows.now row.now frame result }
+    ensures begun { result.cleared ≡ false }
+    ensures all { result.due ≡ Due.Not → length row.now.body.reads.list ≤ result.at }
+{
+    while let Some(read) = recorded_next(row, frame) {
+        let source = row_at(rows, read.row);
+        frame = looked(row, frame, source);
+    }
+    frame
+}
+
+/// The work on a node up to where it is cleared.
+fn clear_first(
+    _nodes: &[PlanNode],
+    rows: &[Opened],
+    _node: &PlanNode,
+    row: &Opened,
+    frame: Frame,
+) -> Frame
+    requires good { IsGood _nodes.now rows.now }
+    requires frame { IsFrame _nodes.now rows.now frame }
+    requires node { slice_get _nodes.now frame.node ≡ Some _node.now }
+    requires row { slice_get rows.now frame.node ≡ Some row.now }
+    requires begun { frame.cleared ≡ false }
+    ensures led { IsLed _nodes.now rows.now row.now frame result }
+    ensures cleared { result.cleared ≡ true }
+{
+    match row.colour {
+        Colour::Dirty => compare_all(_nodes, rows, _node, row, frame).cleared(),
+        Colour::Check => frame.cleared(),
+        Colour::Clean => frame.cleared(),
+    }
+}
+
+/// The node is cleared, where it isn't yet.
+#[tactic(auto, using(crate::proofs::LedLemmas::led_start))]
+fn begin(
+    _nodes: &[PlanNode],
+    rows: &[Opened],
+    _node: &PlanNode,
+    row: &Opened,
+    frame: Frame,
+) -> Frame
+    requires good { IsGood _nodes.now rows.now }
+    requires frame { IsFrame _nodes.now rows.now frame }
+    requires node { slice_get _nodes.now frame.node ≡ Some _node.now }
+    requires row { slice_get rows.now frame.node ≡ Some row.now }
+    ensures led { IsLed _nodes.now rows.now row.now frame result }
+    ensures cleared { result.cleared ≡ true }
+{
+    if frame.cleared {
+        return frame;
+    }
+    clear_first(_nodes, rows, _node, row, frame)
+}
+
+/// A check over the recorded sources that are clean, in order, up to the first that differs or is not
+/// clean.
+fn check_all(
+    _nodes: &[PlanNode],
+    rows: &[Opened],
+    _node: &PlanNode,
+    row: &Opened,
+    mut frame: Frame,
+) -> Frame
+    requires good { IsGood _nodes.now rows.now }
+    requires frame { IsFrame _nodes.now rows.now frame }
+    requires node { slice_get _nodes.now frame.node ≡ Some _node.now }
+    requires row { slice_get rows.now frame.node ≡ Some row.now }
+    requires cleared { frame.cleared ≡ true }
+    ensures led { IsLed _nodes.now rows.now row.now frame result }
+    ensures cleared { result.cleared ≡ true }
+    ensures stopped { IsStopped rows.now row.now result }
+{
+    while let Some(read) = recorded_next(row, frame) {
+        let source = row_at(rows, read.row);
+        if !source.colour.is_clean() {
+            return frame;
+        }
+        frame = looked(row, frame, source);
+    }
+    frame
+}
+
+/// The steps on a frame that write no row, by the order of work: where the node is not cleared yet it
+/// is cleared, and then the sources that are clean are checked, up to the first that differs or is not
+/// clean.
+pub(crate) fn lead(
+    _nodes: &[PlanNode],
+    rows: &[Opened],
+    _node: &PlanNode,
+    row: &Opened,
+    frame: Frame,
+) -> Frame
+    requires good { IsGood _nodes.now rows.now }
+    requires frame { IsFrame _nodes.now rows.now frame }
+    requires node { slice_get _nodes.now frame.node ≡ Some _node.now }
+    requires row { slice_get rows.now frame.node ≡ Some row.now }
+    ensures led { IsLed _nodes.now rows.now row.now frame result }
+    ensures cleared { result.cleared ≡ true }
+    ensures stopped { IsStopped rows.now row.now result }
+{
+    let begun = begin(_nodes, rows, _node, row, frame);
+    check_all(_nodes, rows, _node, row, begun)
 }

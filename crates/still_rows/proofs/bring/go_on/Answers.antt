@@ -1,32 +1,27 @@
-use Rattle.std.proofs.Common.{◌≡◌, ◌∙◌, slice_get, Some, subst, arith, ℕ}
-use Rattle.still_rows.specs.declared.moves.Moved.{Moved}
-use Rattle.still_rows.specs.Moves.{MovesTo}
-use Rattle.still_rows.proofs.WorksLemmas.{row_of, node_of, moved_less}
+use Rattle.std.proofs.Common.{◌≡◌, ℕ, Some, slice_get, sym, subst}
+use Rattle.values.specs.declared.plan.PlanNode.{PlanNode}
+use Rattle.sources.specs.declared.opening.Opened.{Opened}
+use Rattle.still_readers.proofs.Lists.{one_at}
+use Rattle.still_rows.specs.Moves.{LeadsTo}
+use Rattle.still_rows.specs.Works.{EndsAs}
 use Rattle.still_rows.proofs.bring.go_on.Goals as goal
 
-pub advance-requires-clause-room : goal.advance-requires-clause-room
-advance-requires-clause-room c = record { each = (λ i node n. let a = c.requires.room.each i node n in let b = c.loop-next.invariant.room in omega arith) }
+pub end-ended-requires-clause-node : goal.end-ended-requires-clause-node
+end-ended-requires-clause-node c = subst (λ (i : ℕ). slice_get c.args.nodes.now i ≡ Some c.node_at-node.result.now) (sym c.lead-led.ensures.led.node) c.node_at-node.ensures
 
-pub loop-next-preserved : goal.loop-next-preserved
-loop-next-preserved c =
-    let i = c.loop-next.invariant in
-    let f = c.loop-next.frame in
-    let node = node_of c.args.nodes.now c.args.rows.now f i.frame in
-    let row = row_of c.args.nodes.now c.args.rows.now f c.requires.good i.frame in
-    let m = subst (λ (q : Moved). MovesTo c.args.nodes.now c.args.rows.now node.0 row.0 f c.advance.new.reads.list q) c.in-On.is (c.advance.ensures.moved node.0 row.0 node.1 row.1) in
-    let l = moved_less c.args.rows.now c.args.frame.node f c.in-On.next row.0 (subst (λ (k : ℕ). slice_get c.args.rows.now k ≡ Some row.0) i.node row.1) m.2 in
-    record {
-      room = c.advance.ensures.room ∙ i.room;
-      node = m.1 ∙ i.node;
-      frame = m.0;
-      less = (let a = i.less in omega arith);
-    }
+pub end-ended-requires-clause-row : goal.end-ended-requires-clause-row
+end-ended-requires-clause-row c = subst (λ (i : ℕ). slice_get c.args.rows.now i ≡ Some c.row_at-row.result.now) (sym c.lead-led.ensures.led.node) c.row_at-row.ensures
 
-pub loop-next-smaller : goal.loop-next-smaller
-loop-next-smaller c =
-    let i = c.loop-next.invariant in
-    let f = c.loop-next.frame in
-    let node = node_of c.args.nodes.now c.args.rows.now f i.frame in
-    let row = row_of c.args.nodes.now c.args.rows.now f c.requires.good i.frame in
-    let m = subst (λ (q : Moved). MovesTo c.args.nodes.now c.args.rows.now node.0 row.0 f c.advance.new.reads.list q) c.in-On.is (c.advance.ensures.moved node.0 row.0 node.1 row.1) in
-    moved_less c.args.rows.now c.args.frame.node f c.in-On.next row.0 (subst (λ (k : ℕ). slice_get c.args.rows.now k ≡ Some row.0) i.node row.1) m.2
+pub returns-clause-steps : goal.returns-clause-steps
+returns-clause-steps c = λ row r. subst (λ (q : Opened). LeadsTo c.args.rows.now q c.args.frame c.lead-led.result) (one_at c.row_at-row.result.now row c.row_at-row.ensures r) c.lead-led.ensures.led.steps
+
+pub returns-clause-less : goal.returns-clause-less
+returns-clause-less c = rw c.row_at-row.ensures c.lead-led.ensures.led.less
+
+pub returns-clause-ended : goal.returns-clause-ended
+returns-clause-ended c = λ node row n r.
+    let same = c.lead-led.ensures.led.node in
+    let node' : c.node_at-node.result.now ≡ node = one_at c.node_at-node.result.now node (subst (λ (i : ℕ). slice_get c.args.nodes.now i ≡ Some c.node_at-node.result.now) (sym same) c.node_at-node.ensures) n in
+    let row' : c.row_at-row.result.now ≡ row = one_at c.row_at-row.result.now row (subst (λ (i : ℕ). slice_get c.args.rows.now i ≡ Some c.row_at-row.result.now) (sym same) c.row_at-row.ensures) r in
+    subst (λ (q : PlanNode). EndsAs c.args.nodes.now c.args.rows.now q row c.lead-led.result c.end-ended.new.reads.list c.end-ended.result) node'
+    (subst (λ (q : Opened). EndsAs c.args.nodes.now c.args.rows.now c.node_at-node.result.now q c.lead-led.result c.end-ended.new.reads.list c.end-ended.result) row' c.end-ended.ensures.ended)
