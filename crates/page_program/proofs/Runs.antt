@@ -8,6 +8,7 @@ use Rattle.load_meaning.specs.Polls.{enough_rounds}
 use Rattle.values.specs.declared.limits.TheConstants.{MOST_INPUT_BYTES}
 use Rattle.component_items.specs.declared.component.Component.{Component}
 use Rattle.component_items.specs.declared.refusal.Place.{Place}
+use Rattle.outside.specs.Counts.{RoseByTogether}
 use Rattle.component_items.specs.declared.refusal.Refusal.{Refusal}
 use Rattle.component_items.specs.declared.refusal.Refusal.TheVariants.{Bad}
 use Rattle.component_items.specs.declared.refusal.Why.{Why}
@@ -20,7 +21,8 @@ use Rattle.page_program.specs.declared.finish.Outcome.{Outcome}
 use Rattle.page_program.specs.declared.finish.Outcome.TheVariants.{Page, BadWords, BadText, Waiting, Unbuilt, ReadFault, WriteFault, NoMemory, TooLong}
 use Rattle.script_run.specs.Ran.{LoaderCounts}
 use Rattle.page_program.specs.Outcome.{own_line, is_before_run}
-use Rattle.page_program.specs.Run.{Reading, Polling, RefusedAsOwed, Input, Means, IsBad, IsBuilt, GivesTooMany, Request, Account, nothing_run, WasRun, IsNoneOrRun, IsDue, IsOr, IsReadOr, IsRunOr, StandForNone, StandForSome, component_of}
+use Rattle.page_program.proofs.Refused.{refused_once}
+use Rattle.page_program.specs.Run.{Reading, EndsAsWaiting, Polling, RefusedAsOwed, Input, Means, IsBad, IsBuilt, GivesTooMany, Request, Account, nothing_run, WasRun, IsNoneOrRun, IsDue, IsOr, IsReadOr, IsRunOr, StandForNone, StandForSome, component_of}
 
 abbrev pub reading_of : Option (List ℕ) → Option (List ℕ) → ℕ → ℕ → Reading
 reading_of held left faults after = record { held = held; left = left; faults = faults; faults_after = after }
@@ -281,3 +283,12 @@ pub promptly_written : (words : List (List ℕ)) (held left : Option (List ℕ))
 unfolding promptly
 promptly_written words held left faults after false counts outcome account A ended = tt
 promptly_written words held left faults after true counts outcome account A ended = enough_written words held left faults after counts outcome account A ended
+
+-- ---- a run that waits
+
+pub waited : {words : List (List ℕ)} {reading : Reading} (request : Request words reading) (polling : Polling) (loads : List ℕ) (account : Account) (text : List ℕ) → EndsAsWaiting request.input request.settings polling loads account text
+    → RoseByTogether 1 polling.counts.faults polling.counts.faults_after polling.counts.not_yets polling.counts.not_yets_after
+waited request polling loads account text ends =
+    let run = ends.0.run in
+    refused_once (component_of request.input) request.settings.rounds _ run.last run.steps loads polling.counts.faults polling.counts.faults_after polling.counts.not_yets polling.counts.not_yets_after
+    run.runs ends.1.some_pending ends.1.loads_are ends.0.refused

@@ -8,7 +8,7 @@ ghost use Rattle.command_words.specs.Words.{StandFor, texts_of};
 ghost use Rattle.component_items.specs.declared.refusal.Place.{Place};
 ghost use Rattle.load_meaning.specs.Polls.{enough_rounds};
 ghost use Rattle.outside.specs.Bytes.{AppendsPart};
-ghost use Rattle.outside.specs.Counts.{Rose};
+ghost use Rattle.outside.specs.Counts.{Rose, RoseByTogether};
 ghost use Rattle.run_items.specs.Journal.{JournalPhase};
 ghost use Rattle.run_meaning.specs.Run.{IsRun};
 ghost use Rattle.page_program.specs.declared.finish.Outcome.{Outcome};
@@ -149,11 +149,12 @@ pub fn page<R, S: Source, K: Sink, L: Loader, G: Gate>(
         × EndsAsPage request.input request.settings polling (account_of result) text × Appends (K.taken sink.old) (K.taken sink.new) text }
 
     // The same, but exactly these loads are pending behind the last settling, and each has its line in the place of
-    // the page. The loader refused, and where it goes by the attempts alone, the rounds were too few.
+    // the page. So the loader refused in this call, and where it goes by the attempts alone, the rounds were too few.
     ensures waiting { let reading : Reading = record { held = S.held source.old; left = S.held source.new; faults = S.faults source.old; faults_after = S.faults source.new } in
         let polling : Polling = record { is_prompt = L.is_prompt; counts = record { faults = L.faults loader.old; faults_after = L.faults loader.new; not_yets = L.not_yets loader.old; not_yets_after = L.not_yets loader.new } } in
         (loads : List ℕ) → result.outcome ≡ Outcome.Waiting loads → (request : Request (texts_of words.now) reading) × (text : List ℕ)
         × EndsAsWaiting request.input request.settings polling loads (account_of result) text × Appends (K.taken sink.old) (K.taken sink.new) text }
+    ensures waited { (loads : List ℕ) → result.outcome ≡ Outcome.Waiting loads → RoseByTogether 1 (L.faults loader.old) (L.faults loader.new) (L.not_yets loader.old) (L.not_yets loader.new) }
     ensures input_written { StandForSome (texts_of words.now) → IfSome (S.held source.old) (λ bytes. length bytes ≤ MOST_INPUT_BYTES →
         (input : Input) → Means bytes input → IsBuilt input → IsRunOr result.outcome) }
 

@@ -1,5 +1,5 @@
 -- Rounds of settlings: what they owe of the loader's counts, and what a prompt loader makes of them.
-use Rattle.std.proofs.Common.{◌≡◌, ℕ, zero, suc, ◌+◌, ◌-◌, ◌^◌, ◌<◌, ◌≤◌, ◌==◌, Bool, true, false, cond, List, [], ◌∷◌, ◌++◌, length, map, min, Result, Ok, Err, refl, sym, ap, subst, ◌∙◌, arith}
+use Rattle.std.proofs.Common.{◌≡◌, ℕ, suc, ◌+◌, ◌-◌, ◌^◌, ◌<◌, ◌≤◌, ◌==◌, Bool, true, false, cond, List, [], ◌∷◌, ◌++◌, length, map, min, Result, Ok, Err, refl, sym, ap, subst, ◌∙◌, arith}
 use Rattle.std.specs.Prelude.{sum, IfOk}
 use Rattle.std.proofs.lemmas.Bool.{eqb-true, true≢false}
 use Rattle.std.proofs.lemmas.List.Sums.{sum_by-append}
@@ -112,13 +112,13 @@ promptly_more rounds x y z same settled first second =
       middle = first.middle;
       is_middle = first.is_middle;
       polled =
-      second.polled
-      ∙ sym (rounds_first y.component (progress_from y second.middle))
-      ∙ ap (λ (component : Component). all_promptly component (progress_from y second.middle)) same
-      ∙ ap (λ (held : Held). all_promptly x.component (progress_from y held)) (second.is_middle.settled settled)
-      ∙ ap (all_promptly x.component) first.polled
-      ∙ sym (round_last rounds x.component start)
-      ∙ ap (λ (n : ℕ). rounds_promptly n x.component start) (let e : suc rounds ≡ rounds + 1 = omega arith in e);
+          second.polled
+          ∙ sym (rounds_first y.component (progress_from y second.middle))
+          ∙ ap (λ (component : Component). all_promptly component (progress_from y second.middle)) same
+          ∙ ap (λ (held : Held). all_promptly x.component (progress_from y held)) (second.is_middle.settled settled)
+          ∙ ap (all_promptly x.component) first.polled
+          ∙ sym (round_last rounds x.component start)
+          ∙ ap (λ (n : ℕ). rounds_promptly n x.component start) (let e : suc rounds ≡ rounds + 1 = omega arith in e);
     }
 
 -- enough rounds bring all loads

@@ -106,7 +106,7 @@ runs_on component script asked rounds before old new mid q faults faults_between
       pending_is = pending_now;
       component_is = is_component;
       refused = subst (λ (n : ℕ). RoseByTogether n faults faults_after not_yets not_yets_after) (sym all)
-      (RoseByTogether-then owed (refusals_owed rounds new.pending) faults faults_between faults_after not_yets not_yets_between not_yets_after so_far.to.refused counted);
+          (RoseByTogether-then owed (refusals_owed rounds new.pending) faults faults_between faults_after not_yets not_yets_between not_yets_after so_far.to.refused counted);
     } in
     record { to = to; settled = subst (λ (ps : List Phase). IsSettledAfter ps new.still) (sym last) ended.2 }
 

@@ -120,7 +120,8 @@ fn loads_arrive_within_the_rounds(rt: HostRuntime) -> Result<(), Fail> {
         answer(3, Reply::Got(Code::Number(7), 0)),
     ];
     assert_eq!(rt; ran.answers.as_slice(), &answers[..]);
-    let report = b"1.1.1 set 1\n1.1.2 get 2 at 2\n1.1.3 get 7 at 0\njournal 1.1 write 0 2\njournal 1.2 change 1 2\n";
+    let report =
+        b"1.1.1 set 1\n1.1.2 get 2 at 2\n1.1.3 get 7 at 0\njournal 1.1 write 0 2\njournal 1.2 change 1 2\n";
     assert_eq!(rt; ran.report.as_slice(), &report[..]);
     assert!(rt; ran.pending.is_empty());
     Ok(())
@@ -133,15 +134,7 @@ fn a_load_that_fails_is_pending(rt: HostRuntime) -> Result<(), Fail> {
     let script = script(alloc)?;
     assert!(rt; runs_today(&script));
     let mut loader = FailingLoader::new(vec![in alloc; 1, 3]?);
-    let ran = run_script(
-        alloc,
-        component,
-        &script,
-        false,
-        1,
-        &mut loader,
-        &OpenGate,
-    )?;
+    let ran = run_script(alloc, component, &script, false, 1, &mut loader, &OpenGate)?;
     let answers = [
         answer(1, Reply::Set(1)),
         answer(2, Reply::Got(Code::Number(2), 2)),

@@ -183,6 +183,25 @@ returns-clause-waiting g c =
     let at = runs.due_at words reading polling outcome in
     (λ loads e. let found = at (Waiting loads) account A (λ w. cc) ended e in (found.1.0, found.0, found.1.1, found.2))
 
+pub returns-clause-waited : goal.returns-clause-waited
+returns-clause-waited g c =
+    let words = texts_of c.args.words.now in
+    let held = g.S.Source.held c.args.source.now in
+    let left = g.S.Source.held c.prepared-ending.new.source in
+    let faults = g.S.Source.faults c.args.source.now in
+    let after = g.S.Source.faults c.prepared-ending.new.source in
+    let reading = runs.reading_of held left faults after in
+    let polling = polling_of g.L.Loader.is_prompt (g.L.Loader.faults c.args.loader.now) (g.L.Loader.faults c.prepared-ending.new.loader) (g.L.Loader.not_yets c.args.loader.now) (g.L.Loader.not_yets c.prepared-ending.new.loader) in
+    let A = λ (text : List ℕ). Appends (g.K.Sink.taken c.args.sink.now) (g.K.Sink.taken c.written.new.sink) text in
+    let ending = c.prepared-ending.result in
+    let due = c.prepared-ending.ensures.due in
+    let outcome = c.written.result.outcome in
+    let account = account_of c.written.result in
+    let ended = runs.ended_as words reading polling outcome ending.outcome account (ending_account ending) (text_of ending) A due c.written.ensures.account c.written.ensures.whole in
+    let at = runs.due_at words reading polling outcome in
+    (λ loads e. let found = at (Waiting loads) account A (λ w. cc) ended e in
+    runs.waited found.1.0 polling loads account found.0 found.1.1)
+
 pub returns-clause-input_written : goal.returns-clause-input_written
 returns-clause-input_written g c =
     let words = texts_of c.args.words.now in

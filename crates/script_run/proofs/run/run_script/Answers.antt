@@ -24,13 +24,12 @@ loop-before-preserved g c =
     let came = c.in_ok-run_phase.ensures in
     let was = c.loop-before.invariant in
     let now = c.run_phase.new.ran in
-    let script = take (c.loop-before.before + 1) c.args.script.now in
-    (
+    let script = take (c.loop-before.before + 1) c.args.script.now in (
       came.component ∙ was.0,
       subst IsKept (sym came.component) was.1,
       omega (arith, came.ticks, was.2),
       subst (λ (component : Component). GoesOn component script c.args.asked c.args.rounds (counted_from (g.L.Loader.faults c.args.loader.now) (g.L.Loader.faults c.run_phase.new.loader) (g.L.Loader.not_yets c.args.loader.now) (g.L.Loader.not_yets c.run_phase.new.loader)) now) was.0
-      (came.goes_on (g.L.Loader.faults c.args.loader.now) (g.L.Loader.not_yets c.args.loader.now)
-        (subst (λ (component : Component). GoesOn component (take c.loop-before.before c.args.script.now) c.args.asked c.args.rounds (counted_from (g.L.Loader.faults c.args.loader.now) (g.L.Loader.faults c.loop-before.loader) (g.L.Loader.not_yets c.args.loader.now) (g.L.Loader.not_yets c.loop-before.loader)) c.loop-before.ran) (sym was.0) was.3)),
+          (came.goes_on (g.L.Loader.faults c.args.loader.now) (g.L.Loader.not_yets c.args.loader.now)
+          (subst (λ (component : Component). GoesOn component (take c.loop-before.before c.args.script.now) c.args.asked c.args.rounds (counted_from (g.L.Loader.faults c.args.loader.now) (g.L.Loader.faults c.loop-before.loader) (g.L.Loader.not_yets c.args.loader.now) (g.L.Loader.not_yets c.loop-before.loader)) c.loop-before.ran) (sym was.0) was.3)),
       subst (λ (component : Component). OnTrue g.L.Loader.is_prompt (enough_rounds component ≤ c.args.rounds → now.pending ≡ [])) was.0 came.prompt,
     )

@@ -15,8 +15,7 @@ loop-round-preserved g c =
     let raised = c.settle_once-in-loop-round.ensures.ticks in
     let before = c.loop-round.invariant.4 in
     let once = c.in_ok-pending-2.ensures in
-    let some : 0 < length c.loop-round.pending = some_left c.loop-round.pending c.if-is_empty.ensures.1 in
-    (
+    let some : 0 < length c.loop-round.pending = some_left c.loop-round.pending c.if-is_empty.ensures.1 in (
       settles_more c.args.still.now c.loop-round.still c.settle_once-in-loop-round.new.still c.loop-round.invariant.0 once.settles,
       once.pending,
       counted_more c.loop-round._round c.loop-round.pending c.in_ok-pending-2.pending _ _ _ _ _ _ (omega arith) some c.loop-round.invariant.2 once.counted,
@@ -27,5 +26,5 @@ loop-round-preserved g c =
 pub returns-clause-prompt : goal.returns-clause-prompt
 returns-clause-prompt g c =
     OnTrue_from g.L.Loader.is_prompt _ (λ e enough.
-      let l : enough_rounds c.args.still.now.component ≤ c.loop-round._round = omega (arith, enough) in
-      c.loop-round.invariant.1 ∙ all_come c.loop-round._round c.args.still.now c.loop-round.still c.enough_rounds_bring_all.ensures c.component-kept.ensures.kept c.loop-round.invariant.0.component (omega arith) (OnTrue_at e c.loop-round.invariant.3) l)
+    let l : enough_rounds c.args.still.now.component ≤ c.loop-round._round = omega (arith, enough) in
+    c.loop-round.invariant.1 ∙ all_come c.loop-round._round c.args.still.now c.loop-round.still c.enough_rounds_bring_all.ensures c.component-kept.ensures.kept c.loop-round.invariant.0.component (omega arith) (OnTrue_at e c.loop-round.invariant.3) l)
