@@ -1,6 +1,6 @@
 -- What a graph begins with.
 use Rattle.std.proofs.Common.{◌≡◌, inl, ℕ, zero, suc, ◌+◌, ◌<◌, Bool, true, false, List, [], ◌∷◌, ◌++◌, map, take, length, Option, Some, None, slice_get, refl, sym, ap, subst, ◌∙◌, arith}
-use Rattle.std.specs.Prelude.{replicate}
+use Rattle.std.specs.Prelude.{replicate, Result, Ok, Err, IfOk}
 use Rattle.std.proofs.lemmas.List.{length-map}
 use Rattle.values.specs.declared.code.Code.{Code}
 use Rattle.values.specs.declared.code.Code.TheVariants.{Empty}
@@ -37,7 +37,7 @@ use Rattle.load_polls.specs.Shown.{load_code, SourcesShow}
 use Rattle.next_layout.proofs.Rows.{fellow, row_value}
 use Rattle.run_items.specs.Journal.{JournalPhase}
 use Rattle.phase_graph.specs.Graph.{GraphState}
-use Rattle.still_graph.specs.Stands.{still_of, KeysStand, NoneRan, IsStill}
+use Rattle.still_graph.specs.Stands.{still_of, KeysStand, IsFirstGraph, IsFirst, IsStill}
 use Rattle.still_graph.specs.declared.still.Stage.TheVariants.{Made}
 use Rattle.still_graph.proofs.LoadRows.{line_of_load}
 use Rattle.still_graph.proofs.Owners.{live_at_first}
@@ -71,11 +71,20 @@ module _ (component : Component) (kept : IsKept component) where
   pub keys_first : KeysStand component (first_held component)
   keys_first place load at live = inl ((first_begins component kept).arrived load.id)
 
-module _ (component : Component) (kept : IsKept component) (places : List Place) (graph : GraphState)
+module _ (component : Component) (kept : IsKept component) (layout : Plan) (codes : List Code) (places : List Place) (graph : GraphState)
+    (layout_is : layout ≡ plan_of component (state_of (first_held component)))
     (is_places : places ≡ places_of (written component (first_held component)))
-    (plan : graph.plan ≡ plan_of component (state_of (first_held component)))
-    (paired : length graph.rows ≡ length graph.plan.nodes)
-    (sources : (n : ℕ) (node : PlanNode) (row : rows.Opened) → slice_get graph.plan.nodes n ≡ Some node → slice_get graph.rows n ≡ Some row → is_derived node.kind ≡ false → slice_get (map (λ (p : Place). value_held (first_held component) p.id) places) n ≡ Some (unpacked row.code)) where
+    (codes_are : codes ≡ map (λ (p : Place). value_held (first_held component) p.id) places)
+    (is : IsFirstGraph layout codes graph) where
+  plan : graph.plan ≡ plan_of component (state_of (first_held component))
+  plan = is.plan_is ∙ layout_is
+
+  paired : length graph.rows ≡ length graph.plan.nodes
+  paired = is.paired ∙ ap (λ (p : Plan). length p.nodes) (sym is.plan_is)
+
+  sources : (n : ℕ) (node : PlanNode) (row : rows.Opened) → slice_get graph.plan.nodes n ≡ Some node → slice_get graph.rows n ≡ Some row → is_derived node.kind ≡ false → slice_get (map (λ (p : Place). value_held (first_held component) p.id) places) n ≡ Some (unpacked row.code)
+  sources n node row at_node at_row source = ap (λ (cs : List Code). slice_get cs n) (sym codes_are) ∙ is.sources n node row (ap (λ (p : Plan). slice_get p.nodes n) (sym is.plan_is) ∙ at_node) at_row source
+
   abbrev held : Held
   held = first_held component
 
@@ -118,23 +127,52 @@ module _ (component : Component) (kept : IsKept component) (places : List Place)
       so : (w : Written) (says : Says) → w.says ≡ says → GivenSo (state_of (first_held component)) w.id w.scene.row w.says → GivenSo (state_of (first_held component)) w.id w.scene.row says
       so w says is has = subst (GivenSo (state_of (first_held component)) w.id w.scene.row) is has
 
-  pub begins : (state : HeldState) (journal : List JournalPhase) (verdicts : List (List Verdict)) (room : ℕ) (live : List Bool) (loadings : List Loading) → state ≡ first_state component → journal ≡ [] → live ≡ replicate (length graph.plan.owners) true → graph.live ≡ live → graph.is_open ≡ false → loadings ≡ first_loadings component
-      → NoneRan graph → IsStill (still_of component state places graph journal Made verdicts loadings) room
-  begins state journal verdicts room live loadings first none all_live is_live closed unasked fresh = subst (λ (s : HeldState). IsStill (still_of component s places graph journal Made verdicts loadings) room) (sym first) (record {
-    kept = kept;
-    fits = of;
-    places = is_places;
+  pub is_first : IsFirst component places graph
+  is_first = record {
+    named = is_places;
     plan = plan;
-    in_step = subst (λ (ls : List Loading). AreInStep component (record { held = first_held component; loadings = ls })) (sym unasked) (in_step_first component kept);
-    keys = keys_first component kept;
-    at_stage = record {
-      journal = none;
-      closed = closed;
-      live = is_live ∙ all_live ∙ ap (λ (p : Plan). replicate (length p.owners) true) plan ∙ live_at_first component kept;
-      shows = shows_first;
-      fresh = fresh;
-    };
-  })
+    live = is.live ∙ ap (λ (p : Plan). replicate (length p.owners) true) layout_is ∙ live_at_first component kept;
+    closed = is.closed;
+    ticks = is.ticks;
+    shows = shows_first;
+    fresh = is.fresh;
+  }
+
+pub begins : (component : Component) → IsKept component → (state : HeldState) (places : List Place) (graph : GraphState) (journal : List JournalPhase) (verdicts : List (List Verdict)) (room : ℕ) (loadings : List Loading) → state ≡ first_state component → IsFirst component places graph → journal ≡ [] → loadings ≡ first_loadings component
+    → IsStill (still_of component state places graph journal Made verdicts loadings) room
+begins component kept state places graph journal verdicts room loadings first is none unasked = subst (λ (s : HeldState). IsStill (still_of component s places graph journal Made verdicts loadings) room) (sym first) (record {
+  kept = kept;
+  fits = first_is_of component kept;
+  places = is.named;
+  plan = is.plan;
+  in_step = subst (λ (ls : List Loading). AreInStep component (record { held = first_held component; loadings = ls })) (sym unasked) (in_step_first component kept);
+  keys = keys_first component kept;
+  at_stage = record {
+    journal = none;
+    closed = is.closed;
+    live = is.live;
+    shows = is.shows;
+    fresh = is.fresh;
+  };
+})
+
+-- a graph that was made for a plan, where one was
+pub first_of_plan : {E : Type 0} (made : Result GraphState E) (plan : Plan) (live : List Bool) (codes : List Code) → live ≡ replicate (length plan.owners) true
+    → IfOk made (λ graph. graph.plan ≡ plan) → IfOk made (λ graph. graph.live ≡ live) → IfOk made (λ graph. graph.is_open ≡ false) → IfOk made (λ graph. graph.base ≡ 0) → IfOk made (λ graph. graph.drawn ≡ 0)
+    → IfOk made (λ graph. length graph.rows ≡ length plan.nodes)
+    → IfOk made (λ graph. (n : ℕ) (node : PlanNode) (row : rows.Opened) → slice_get plan.nodes n ≡ Some node → slice_get graph.rows n ≡ Some row → is_derived node.kind ≡ false → slice_get codes n ≡ Some (unpacked row.code))
+    → IfOk made (λ graph. (n : ℕ) (node : PlanNode) (row : rows.Opened) → slice_get plan.nodes n ≡ Some node → slice_get graph.rows n ≡ Some row → is_derived node.kind ≡ true → row.body.cause ≡ None)
+    → IfOk made (IsFirstGraph plan codes)
+first_of_plan (Ok graph) plan live codes all plan_is live_is closed base drawn paired sources derived = record {
+  plan_is = plan_is;
+  live = live_is ∙ all;
+  closed = closed;
+  ticks = omega (arith, base, drawn);
+  paired = paired;
+  sources = sources;
+  fresh = λ n node row at_node at_row is_so. derived n node row (ap (λ (p : Plan). slice_get p.nodes n) (sym plan_is) ∙ at_node) at_row is_so;
+}
+first_of_plan (Err e) plan live codes all plan_is live_is closed base drawn paired sources derived = tt
 
 -- the codes of one more row
 pub codes_more : (f : Place → Code) (places : List Place) (k : ℕ) (code : Code) → k < length places → ((p : Place) → slice_get places k ≡ Some p → code ≡ f p) → map f (take k places) ++ code ∷ [] ≡ map f (take (k + 1) places)

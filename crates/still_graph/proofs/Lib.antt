@@ -17,4 +17,3 @@ pub mod Finished
 pub mod HoldsLoad
 pub mod WorkedKept
 pub mod Finishes
-pub mod LoadedKept

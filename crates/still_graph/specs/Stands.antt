@@ -1,7 +1,8 @@
 -- What holds of a graph at each stage.
-use Rattle.std.specs.Prelude.{◌≡◌, ◌≢◌, ◌⊎◌, ◌<◌, ℕ, true, false, List, [], ◌∷◌, ◌++◌, slice_get, Some, None, Option}
+use Rattle.std.specs.Prelude.{◌≡◌, ◌≢◌, ◌⊎◌, ◌<◌, ℕ, true, false, List, [], ◌∷◌, ◌++◌, length, replicate, slice_get, Some, None, Option}
 use Rattle.values.specs.declared.plan.Kind.TheVariants as kind
 use Rattle.values.specs.declared.plan.Noted.{Noted}
+use Rattle.values.specs.declared.plan.Plan.{Plan}
 use Rattle.values.specs.declared.plan.PlanNode.{PlanNode}
 use Rattle.values.specs.declared.code.Code.{Code}
 use Rattle.values.specs.Packing.{unpacked}
@@ -11,7 +12,7 @@ use Rattle.component_items.specs.Kept.{IsKept}
 use Rattle.sources.specs.declared.opening.Opened as rows
 use Rattle.store_fields.specs.declared.edit.Verdict.{Verdict}
 use Rattle.async_derived.specs.declared.loading.Loading.{Loading}
-use Rattle.plain_evaluation.specs.Held.{Held, arrived_held}
+use Rattle.plain_evaluation.specs.Held.{Held, arrived_held, first_held}
 use Rattle.plain_evaluation.specs.Place.{Place}
 use Rattle.plain_evaluation.specs.Written.{state_of, written}
 use Rattle.plan_meaning.specs.Layout.{places_of, plan_of}
@@ -25,7 +26,7 @@ use Rattle.run_meaning.specs.Words.{In}
 use Rattle.run_meaning.specs.Opened.{Opened}
 use Rattle.run_meaning.specs.Phase.{IsOfPlan}
 use Rattle.run_history.specs.Going.{Start, Going, opened_at}
-use Rattle.phase_graph.specs.Graph.{GraphState}
+use Rattle.phase_graph.specs.Graph.{GraphState, ticks_of}
 use Rattle.phase_graph.specs.Way.{IsOnWay}
 use Rattle.still_graph.specs.Still.{StillState, progress_of, opened_in, ended}
 use Rattle.still_graph.specs.declared.still.Stage.{Stage}
@@ -47,6 +48,26 @@ KeysStand component held = (place : ℕ) (load : LoadOf) → slice_get (loads_in
 -- no memo and no effect ran yet
 abbrev pub NoneRan : GraphState → Type 0
 NoneRan graph = (n : ℕ) (node : PlanNode) (row : rows.Opened) → slice_get graph.plan.nodes n ≡ Some node → slice_get graph.rows n ≡ Some row → is_derived node.kind ≡ true → row.body.cause ≡ None
+
+-- the graph of a plan of which nothing ran: each source has its value of these, and all owners are live
+pub record IsFirstGraph (plan : Plan) (codes : List Code) (graph : GraphState) : Type 0 where
+  pub plan_is : graph.plan ≡ plan
+  pub live : graph.live ≡ replicate (length plan.owners) true
+  pub closed : graph.is_open ≡ false
+  pub ticks : ticks_of graph ≡ 0
+  pub paired : length graph.rows ≡ length plan.nodes
+  pub sources : (n : ℕ) (node : PlanNode) (row : rows.Opened) → slice_get plan.nodes n ≡ Some node → slice_get graph.rows n ≡ Some row → is_derived node.kind ≡ false → slice_get codes n ≡ Some (unpacked row.code)
+  pub fresh : NoneRan graph
+
+-- that of a component in the state at the start
+pub record IsFirst (component : Component) (places : List Place) (graph : GraphState) : Type 0 where
+  pub named : places ≡ places_of (written component (first_held component))
+  pub plan : graph.plan ≡ plan_of component (state_of (first_held component))
+  pub live : graph.live ≡ (first_held component).live
+  pub closed : graph.is_open ≡ false
+  pub ticks : ticks_of graph ≡ 0
+  pub shows : SourcesShow component (state_of (first_held component)) graph.rows
+  pub fresh : NoneRan graph
 
 -- each row but an effect's has its value by plain evaluation
 abbrev pub HasPlainValues : Component → Held → GraphState → Type 0

@@ -1,5 +1,6 @@
 //! What a graph begins with.
 ghost use Rattle.std.specs.Prelude.{◌≡◌, ℕ, [], map, length, slice_get, Some, IfOk};
+ghost use Rattle.values.specs.Plan.{IsLawful};
 ghost use Rattle.component_items.specs.Kept.{IsKept};
 ghost use Rattle.plain_evaluation.specs.Held.{first_held, value_held};
 ghost use Rattle.plain_evaluation.specs.Place.{Place};
@@ -8,7 +9,7 @@ ghost use Rattle.phase_graph.specs.Graph.{ticks_of};
 ghost use Rattle.id_owners.specs.Table.{owners_by_id};
 ghost use Rattle.load_table.specs.Loads.{loads_in};
 ghost use Rattle.load_meaning.specs.Polls.{first_loadings};
-ghost use Rattle.still_graph.specs.Stands.{still_of, IsStill};
+ghost use Rattle.still_graph.specs.Stands.{still_of, IsFirstGraph, IsFirst, IsStill};
 ghost use Rattle.still_graph.specs.declared.still.Stage.TheVariants.{Made};
 
 use crate::journal::Journal;
@@ -21,7 +22,7 @@ use node_plan::{Laid, lay_out};
 use phase_graph::Graph;
 use std::alloc::Global;
 use store_fields::Verdicts;
-use values::{Code, NoMemory};
+use values::{Code, NoMemory, Plan};
 
 /// All of a graph but its component.
 #[derive(Drop)]
@@ -47,14 +48,12 @@ impl Begun {
         ensures loads { IfOk result (λ begun. begun.loads.loads ≡ loads_in component.now) }
         ensures loadings { IfOk result (λ begun. begun.loads.loadings ≡ first_loadings component.now) }
     {
-        let held = first_held(alloc, component)?;
-        let Laid { plan, names } = lay_out(alloc, component, &held)?;
-        let codes = codes_of(alloc, &held, &names)?;
-        let live = vec![in alloc; true; plan.owners.len()]?;
-        let graph = Graph::new(alloc, plan, live, codes.as_slice())?;
+        let owners = IdOwners::new(alloc, component)?;
         let loads = Loads::new(alloc, component)?;
+        let held = first_held(alloc, component)?;
+        let First { names, graph } = First::new(alloc, component, &held)?;
         Ok(Begun {
-            owners: IdOwners::new(alloc, component)?,
+            owners,
             held,
             names,
             graph,
@@ -63,6 +62,38 @@ impl Begun {
             loads,
         })
     }
+}
+
+/// The first rows, with their places.
+#[derive(Drop)]
+struct First {
+    names: Names,
+    graph: Graph,
+}
+
+impl First {
+    /// The rows of the component in the state at the start.
+    fn new(alloc: Global, component: &Component, held: &Held) -> Result<First, NoMemory>
+        requires kept { IsKept component.now }
+        requires state { held.now ≡ first_state component.now }
+        requires fits { IsOf component.now held.now }
+        ensures { IfOk result (λ first. IsFirst component.now first.names first.graph) }
+    {
+        let Laid { plan, names } = lay_out(alloc, component, held)?;
+        let codes = codes_of(alloc, held, &names)?;
+        let graph = first_graph(alloc, plan, codes.as_slice())?;
+        Ok(First { names, graph })
+    }
+}
+
+/// The graph of a plan of which nothing ran yet: each source has its value of `codes`, and all owners are live.
+fn first_graph(alloc: Global, plan: Plan, codes: &[Code]) -> Result<Graph, NoMemory>
+    requires lawful { IsLawful plan }
+    requires paired { length codes.now ≡ length plan.nodes }
+    ensures { IfOk result (IsFirstGraph plan codes.now) }
+{
+    let live = vec![in alloc; true; plan.owners.len()]?;
+    Graph::new(alloc, plan, live, codes)
 }
 
 /// The state at the start.

@@ -1,15 +1,15 @@
-//! Worked runs, with ample memory: two phases, and a load that is waited for.
-ghost use Rattle.std.specs.Prelude.{◌≡◌, ◌≢◌, ◌⊎◌, ◌∷◌, [], IfOk, IsSomeAnd, IsTrue, slice_get};
+//! A worked run of two phases, with ample memory.
+ghost use Rattle.std.specs.Prelude.{◌≡◌, ◌≢◌, ◌⊎◌, IfOk, IsSomeAnd, IsTrue, slice_get};
 ghost use Rattle.values.specs.declared.plan.Kind.TheVariants as kind;
-ghost use Rattle.still_graph.specs.Worked.{doubled, loaded_once};
+ghost use Rattle.still_graph.specs.Worked.{doubled};
 
-use crate::{Journal, Late, Settled, Stage, Still, Target};
+use crate::{Journal, Settled, Stage, Still, Target};
 use component_items::{Component, Item, Items};
-use outside::{Delays, FailingLoader, Loader};
+use outside::Delays;
 use std::alloc::Global;
 use std::process::Abort;
 use std::test::Fail;
-use values::{Code, Codes, Expr, Kind, NoMemory, Plan, Stop, Texts};
+use values::{Code, Expr, Kind, NoMemory, Plan, Stop, Texts};
 
 /// A table with three texts, the empty one among them.
 fn texts(alloc: Global) -> Result<Texts, Fail> {
@@ -174,94 +174,5 @@ fn two_phases_are_settled_and_noted(rt: HostRuntime) -> Result<(), Fail> {
     let mut still = made(&rt, alloc)?;
     run(&rt, alloc, &mut still)?;
     noted(&rt, still.journal());
-    Ok(())
-}
-
-/// One number.
-fn number(alloc: Global, number: i32) -> Result<Codes, NoMemory>
-    ensures { IfOk result (λ codes. codes ≡ Code.Number number ∷ []) }
-{
-    let mut codes = Codes::new(alloc);
-    codes.push(Code::Number(number))?;
-    Ok(codes)
-}
-
-/// A resource with the id 0, whose value comes when it is asked for twice, and a load of it with the id 1.
-fn load_items(alloc: Global) -> Result<Items, NoMemory>
-    ensures { IfOk result (λ items. items ≡ loaded_once) }
-{
-    let mut items = Items::new(alloc);
-    items.push(Item::Resource {
-        id: 0,
-        name: 1,
-        after: 1,
-        keys: number(alloc, 1)?,
-        values: number(alloc, 7)?,
-    })?;
-    items.push(Item::Load {
-        id: 1,
-        name: 2,
-        resource: 0,
-        key: Expr::Lit(Code::Number(1)),
-    })?;
-    Ok(items)
-}
-
-/// The component of these, which has all its texts.
-fn load_component(alloc: Global) -> Result<Option<Component>, Fail> {
-    let items = load_items(alloc)?;
-    let texts = texts(alloc)?;
-    if texts.len() != 3 {
-        return Ok(None);
-    }
-    Ok(Some(Component::new(texts, items)))
-}
-
-/// The graph of the component with a load.
-fn made_with_load(rt: &impl Abort, alloc: Global) -> Result<Still, Fail> {
-    let component = load_component(alloc)?.expect(rt, "all three texts");
-    match Still::new(alloc, component) {
-        Ok(still) => Ok(still),
-        Err((_, no_memory)) => Err(no_memory.into()),
-    }
-}
-
-/// Settles the graph. The first load that it waits for, if it does for any.
-fn waits<L: Loader>(
-    rt: &impl Abort,
-    alloc: Global,
-    still: &mut Still,
-    loader: &mut L,
-) -> Result<Option<(u32, Late)>, Fail> {
-    assert!(rt; still.stage() != Stage::Open);
-    assert!(rt; still.ticks() < 1000);
-    match still.settle(alloc, loader)? {
-        Settled::Whole => Ok(None),
-        Settled::Waiting(late) => Ok(late.at(0).copied()),
-    }
-}
-
-#[test]
-fn a_load_waits_and_arrives(rt: HostRuntime) -> Result<(), Fail> {
-    let alloc = rt.alloc();
-    let mut still = made_with_load(&rt, alloc)?;
-    let mut loader = Delays::new();
-    let late = waits(&rt, alloc, &mut still, &mut loader)?;
-    assert!(&rt; late == Some((1, Late::NotYet)));
-    assert_eq!(&rt; still.value(0), Some(Code::Empty));
-    assert!(&rt; waits(&rt, alloc, &mut still, &mut loader)?.is_none());
-    assert_eq!(&rt; still.value(0), Some(Code::Number(7)));
-    Ok(())
-}
-
-#[test]
-fn a_call_that_fails_is_made_again(rt: HostRuntime) -> Result<(), Fail> {
-    let alloc = rt.alloc();
-    let mut still = made_with_load(&rt, alloc)?;
-    let mut loader = FailingLoader::new(vec![in alloc; 1]?);
-    let late = waits(&rt, alloc, &mut still, &mut loader)?;
-    assert!(&rt; late == Some((1, Late::Failed)));
-    assert!(&rt; waits(&rt, alloc, &mut still, &mut loader)?.is_none());
-    assert!(&rt; waits(&rt, alloc, &mut still, &mut loader)?.is_none());
     Ok(())
 }
