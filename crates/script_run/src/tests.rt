@@ -120,8 +120,9 @@ fn loads_arrive_within_the_rounds(rt: HostRuntime) -> Result<(), Fail> {
         answer(3, Reply::Got(Code::Number(7), 0)),
     ];
     assert_eq!(rt; ran.answers.as_slice(), &answers[..]);
+    // The rows are the signal, the load, the memo and the load's key.
     let report =
-        b"1.1.1 set 1\n1.1.2 get 2 at 2\n1.1.3 get 7 at 0\njournal 1.1 write 0 2\njournal 1.2 change 1 2\n";
+        b"1.1.1 set 1\n1.1.2 get 2 at 2\n1.1.3 get 7 at 0\njournal 1.1 write 0 2\njournal 1.2 change 2 2\n";
     assert_eq!(rt; ran.report.as_slice(), &report[..]);
     assert!(rt; ran.pending.is_empty());
     Ok(())
