@@ -1,5 +1,6 @@
 -- A run leaves loads pending only where its loader refused.
-use Rattle.std.proofs.Common.{◌≡◌, ℕ, zero, suc, ◌+◌, ◌≤◌, List, [], ◌∷◌, ◌++◌, refl, ◌∙◌, arith}
+use Rattle.std.proofs.Common.{◌≡◌, ℕ, zero, suc, ◌+◌, ◌-◌, ◌≤◌, ◌==◌, Bool, true, false, cond, List, [], ◌∷◌, ◌++◌, length, refl, ◌∙◌, arith}
+use Rattle.std.proofs.lemmas.Bool.{eqb-true}
 use Rattle.component_items.specs.declared.component.Component.{Component}
 use Rattle.outside.specs.Counts.{RoseByTogether}
 use Rattle.plain_evaluation.specs.Held.{Held}
@@ -12,10 +13,18 @@ last_owed : (component : Component) (rounds : ℕ) (first last : Held) (steps : 
 last_owed component rounds first last steps none = let one = alone (refusals_owed rounds (pending component first)) in omega arith
 last_owed component rounds first last steps (more {past} {held} s keys r opens is e) = let all = refused_last component rounds first past s in omega arith
 
+-- what is owed where a load is pending
+owed_some : (rounds id : ℕ) (ids : List ℕ) → refusals_owed rounds (id ∷ ids) ≡ (rounds - 1) + length (id ∷ ids)
+owed_some rounds id ids = by (length (id ∷ ids) == 0) refl
+  where
+    by : (b : Bool) → (length (id ∷ ids) == 0) ≡ b → cond b 0 ((rounds - 1) + length (id ∷ ids)) ≡ (rounds - 1) + length (id ∷ ids)
+    by true e = absurd (let none : length (id ∷ ids) ≡ 0 = eqb-true (length (id ∷ ids)) 0 e in omega arith)
+    by false e = refl
+
 -- which is a refusal at least, where a load is pending behind it
 owed_one : (rounds : ℕ) (loads : List ℕ) → (loads ≡ [] → ⊥) → 1 ≤ refusals_owed rounds loads
 owed_one rounds [] some = absurd (some refl)
-owed_one rounds (load ∷ loads) some = omega arith
+owed_one rounds (load ∷ loads) some = let all = owed_some rounds load loads in omega (arith, all)
 
 -- counts that rose by more rose by one
 rose_once : (n before after other_before other_after : ℕ) → 1 ≤ n → RoseByTogether n before after other_before other_after → RoseByTogether 1 before after other_before other_after
