@@ -11,6 +11,4 @@ pub use finish::{Finish, Outcome};
 pub use run::page;
 
 #[cfg(test)]
-mod load_tests;
-#[cfg(test)]
 mod tests;

@@ -3,4 +3,3 @@ pub mod Settlings
 pub mod Rounds
 pub mod Made
 pub mod Runs
-pub mod WorkedKept

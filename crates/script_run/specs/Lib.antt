@@ -3,4 +3,3 @@ pub mod Phases
 pub mod Told
 pub mod Settlings
 pub mod Ran
-pub mod Worked

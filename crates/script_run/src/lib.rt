@@ -9,6 +9,3 @@ mod today;
 
 pub use run::{Ran, run_script};
 pub use today::runs_today;
-
-#[cfg(test)]
-mod tests;
