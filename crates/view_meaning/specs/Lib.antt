@@ -1,0 +1,4 @@
+pub mod Parts
+pub mod Serials
+pub mod Counted
+pub mod Mounted
