@@ -1,3 +1,5 @@
 pub mod Writes
 pub mod Cells
 pub mod Serials
+pub mod Apart
+pub mod Held

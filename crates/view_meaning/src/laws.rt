@@ -4,12 +4,14 @@ ghost use Rattle.values.specs.declared.code.Code.{Code as CodeValue};
 ghost use Rattle.outside.specs.Counts.{last_count, next_count};
 ghost use Rattle.component_items.specs.declared.component.Component.{Component as ComponentValue};
 ghost use Rattle.component_items.specs.declared.component.Item.{Item as ItemValue};
+ghost use Rattle.component_items.specs.Kept.{IsKept};
+ghost use Rattle.plain_evaluation.specs.Fits.{Fits};
 ghost use Rattle.plain_evaluation.specs.Held.{Held};
 ghost use Rattle.plain_evaluation.specs.Page.{page_in, page_of, View};
 ghost use Rattle.plain_evaluation.specs.Place.{Place};
 ghost use Rattle.view_meaning.specs.Counted.{AreCounted};
 ghost use Rattle.view_meaning.specs.Mounted.{Seen, Cell, Mounted, nothing_mounted, mounted_again, mounted_after, serial_of, written_of, page_mounted, ShowsHeld};
-ghost use Rattle.view_meaning.specs.Parts.{parts_in, parts_bytes, has_cell, keys_mounted};
+ghost use Rattle.view_meaning.specs.Parts.{parts_in, parts_of, parts_bytes, has_cell, has_each, keys_mounted, mounted_places, places_apart, KeysDiffer};
 ghost use Rattle.view_meaning.specs.Serials.{fresh_among, before_it};
 
 /// The parts of a page write it, one after another.
@@ -22,6 +24,18 @@ pub fn parts_write_the_page()
 pub fn views_write_the_page()
     ensures seen { (items : List ItemValue) (seen : Seen) (old : Mounted) → page_mounted seen.view.texts (mounted_again items seen old) ≡ page_in seen.view items }
     ensures held { (component : ComponentValue) (held : Held) (seen : Seen) (old : Mounted) → ShowsHeld component held seen.view → page_mounted component.texts (mounted_again component.items seen old) ≡ page_of component held }
+{}
+
+/// No two mounted parts stand at one place.
+pub fn mounted_places_differ()
+    ensures seen { (component : ComponentValue) (view : View) → IsKept component → KeysDiffer view → places_apart (mounted_places (parts_in view component.items)) ≡ true }
+    ensures held { (component : ComponentValue) (held : Held) → IsKept component → Fits component held → places_apart (mounted_places (parts_of component held)) ≡ true }
+{}
+
+/// The mounted rows of an `each` are those of its store, in the store's order; one that is not mounted has none.
+pub fn rows_are_those_of_the_store()
+    ensures mounted { (component : ComponentValue) (view : View) (id store : ℕ) → IsKept component → has_each (parts_in view component.items) id store ≡ true → keys_mounted (parts_in view component.items) id ≡ view.keys id store }
+    ensures unmounted { (component : ComponentValue) (view : View) (id : ℕ) → IsKept component → ((store : ℕ) → has_each (parts_in view component.items) id store ≡ false) → keys_mounted (parts_in view component.items) id ≡ [] }
 {}
 
 /// A mounted text or attribute shows the value and the version that were seen last.
@@ -38,8 +52,8 @@ pub fn replacements_are_counted()
     ensures gone { (items : List ItemValue) (seen : Seen) (old : Mounted) (p : Place) → has_cell (parts_in seen.view items) p ≡ false → written_of (mounted_again items seen old) p ≡ None }
 {}
 
-/// The rows of an `each` stand in the store's order.
-pub fn rows_stand_in_order()
+/// The rows that a view numbers are those that are mounted, in their order.
+pub fn mounted_rows_are_numbered()
     ensures { (items : List ItemValue) (seen : Seen) (old : Mounted) (id : ℕ) → map (λ pair. pair.0) ((mounted_again items seen old).rows id).rows ≡ keys_mounted (mounted_again items seen old).parts id }
 {}
 
