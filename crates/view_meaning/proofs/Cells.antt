@@ -12,8 +12,9 @@ use Rattle.component_items.specs.declared.component.Item.{Item}
 use Rattle.plain_evaluation.specs.Held.{Held}
 use Rattle.plain_evaluation.specs.Page.{View, attr_with, view_of, page_in, page_of}
 use Rattle.plain_evaluation.specs.Place.{Place, same_place}
+use Rattle.plain_evaluation.specs.Scratch.{scratch}
 use Rattle.plain_evaluation.proofs.Places.{place_itself, or_right}
-use Rattle.view_meaning.specs.Parts.{Part, plain, shows, begins, bare, fixed, valued, begun, ends, area, branch, each, row, part_bytes, parts_bytes, cell_in, has_cell, parts_in}
+use Rattle.view_meaning.specs.Parts.{Part, plain, shows, begins, bare, fixed, valued, begun, ends, area, branch, each, row, part_bytes, parts_bytes, cell_in, has_cell, parts_in, parts_of}
 use Rattle.view_meaning.specs.Mounted.{Seen, Cell, Mounted, cell_again, mounted_again, written_of, code_of, page_mounted, ShowsHeld}
 use Rattle.view_meaning.proofs.Writes.{page_written}
 
@@ -124,3 +125,9 @@ held_written component held seen old s =
     ap (λ texts. page_mounted texts (mounted_again component.items seen old)) (sym s.texts)
     ∙ mounted_writes component.items seen old
     ∙ ap (λ view. page_in view component.items) (view_is component held seen.view s)
+
+pub shown_written : (component : Component) (held : Held) (mounted : Mounted) → mounted.parts ≡ parts_of component held → ((p : Place) → has_cell mounted.parts p ≡ true → code_of mounted p ≡ scratch component held p) → page_mounted component.texts mounted ≡ page_of component held
+shown_written component held mounted is same =
+    parts_same component.texts (code_of mounted) (scratch component held) mounted.parts same
+    ∙ ap (parts_bytes component.texts (scratch component held)) is
+    ∙ page_written (view_of component held) component.items

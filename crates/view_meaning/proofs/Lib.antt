@@ -3,3 +3,4 @@ pub mod Cells
 pub mod Serials
 pub mod Apart
 pub mod Held
+pub mod Computed

@@ -2,3 +2,4 @@ pub mod Parts
 pub mod Serials
 pub mod Counted
 pub mod Mounted
+pub mod Worked

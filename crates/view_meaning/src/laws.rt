@@ -9,8 +9,9 @@ ghost use Rattle.plain_evaluation.specs.Fits.{Fits};
 ghost use Rattle.plain_evaluation.specs.Held.{Held};
 ghost use Rattle.plain_evaluation.specs.Page.{page_in, page_of, View};
 ghost use Rattle.plain_evaluation.specs.Place.{Place};
+ghost use Rattle.plain_evaluation.specs.Scratch.{scratch};
 ghost use Rattle.view_meaning.specs.Counted.{AreCounted};
-ghost use Rattle.view_meaning.specs.Mounted.{Seen, Cell, Mounted, nothing_mounted, mounted_again, mounted_after, serial_of, written_of, page_mounted, ShowsHeld};
+ghost use Rattle.view_meaning.specs.Mounted.{Seen, Cell, Mounted, nothing_mounted, mounted_again, mounted_after, serial_of, written_of, code_of, page_mounted, ShowsHeld};
 ghost use Rattle.view_meaning.specs.Parts.{parts_in, parts_of, parts_bytes, has_cell, has_each, keys_mounted, mounted_places, places_apart, KeysDiffer};
 ghost use Rattle.view_meaning.specs.Serials.{fresh_among, before_it};
 
@@ -20,10 +21,11 @@ pub fn parts_write_the_page()
 {}
 
 /// A view writes the page of what was seen last; where that is held state with the values of plain evaluation, it
-/// is the page of that state.
+/// is the page of that state. So is that of any view with the parts of held state that shows these values.
 pub fn views_write_the_page()
     ensures seen { (items : List ItemValue) (seen : Seen) (old : Mounted) → page_mounted seen.view.texts (mounted_again items seen old) ≡ page_in seen.view items }
     ensures held { (component : ComponentValue) (held : Held) (seen : Seen) (old : Mounted) → ShowsHeld component held seen.view → page_mounted component.texts (mounted_again component.items seen old) ≡ page_of component held }
+    ensures shown { (component : ComponentValue) (held : Held) (mounted : Mounted) → mounted.parts ≡ parts_of component held → ((p : Place) → has_cell mounted.parts p ≡ true → code_of mounted p ≡ scratch component held p) → page_mounted component.texts mounted ≡ page_of component held }
 {}
 
 /// No two mounted parts stand at one place.
