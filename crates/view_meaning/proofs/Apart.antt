@@ -1,5 +1,5 @@
 -- Places of mounted parts are distinct, and the rows of an `each` are those of its store.
-use Rattle.std.proofs.Common.{◌≡◌, ℕ, zero, suc, ◌+◌, ◌<◌, ◌≤◌, inl, inr, ◌⊎◌, ◌||◌, ◌&&◌, ◌==◌, not, if◌then◌else◌, Bool, true, false, List, [], ◌∷◌, ◌++◌, map, length, Option, Some, None, refl, sym, ap, subst, ◌∙◌, arith, length-append}
+use Rattle.std.proofs.Common.{◌≡◌, ℕ, suc, ◌+◌, ◌<◌, ◌≤◌, inl, inr, ◌⊎◌, ◌||◌, ◌&&◌, ◌==◌, not, if◌then◌else◌, Bool, true, false, List, [], ◌∷◌, ◌++◌, map, length, Option, Some, None, refl, sym, ap, subst, ◌∙◌, arith, length-append}
 use Rattle.std.specs.List.{list_any, list_all, flat_map, concat, range_with_len}
 use Rattle.std.proofs.lemmas.Bool.{eqb-true}
 use Rattle.std.proofs.lemmas.List.{append-nil}
@@ -325,7 +325,7 @@ module _ (view : View) where
       none = λ id out.
           rows-append first second id
           ∙ (λ i. a.rows.none id (λ store. (or_none (has_each first id store) (has_each second id store) (sym (each-append first second id store) ∙ out store)).0) i
-            ++ b.rows.none id (λ store. (or_none (has_each first id store) (has_each second id store) (sym (each-append first second id store) ∙ out store)).1) i);
+          ++ b.rows.none id (λ store. (or_none (has_each first id store) (has_each second id store) (sym (each-append first second id store) ∙ out store)).1) i);
     };
   }
     where

@@ -1,5 +1,5 @@
 -- What a view shows is what was seen.
-use Rattle.std.proofs.Common.{◌≡◌, ℕ, ◌==◌, ◌||◌, if◌then◌else◌, Bool, true, false, codes, List, [], ◌∷◌, ◌++◌, Option, Some, None, refl, sym, ap, ◌∙◌}
+use Rattle.std.proofs.Common.{◌≡◌, ℕ, ◌==◌, ◌||◌, if◌then◌else◌, Bool, true, false, List, [], ◌∷◌, ◌++◌, Option, Some, None, refl, sym, ap, ◌∙◌}
 use Rattle.std.specs.List.{flat_map, list_any}
 use Rattle.std.specs.Option.{option_map, option_map_or}
 use Rattle.std.proofs.lemmas.List.Folds.{list_any-append}
@@ -114,7 +114,7 @@ gone items seen old p none = ap (option_map (λ cell. cell.written)) (cell_gone 
 pub mounted_writes : (items : List Item) (seen : Seen) (old : Mounted) → page_mounted seen.view.texts (mounted_again items seen old) ≡ page_in seen.view items
 mounted_writes items seen old =
     parts_same seen.view.texts (code_of (mounted_again items seen old)) seen.view.value (parts_in seen.view items) (λ p has.
-        ap (λ (o : Option Cell). option_map_or (λ cell. cell.code) o Empty) (cell_there items seen old p has) ∙ again_code (old.cells p) (seen.view.value p) (seen.version p))
+    ap (λ (o : Option Cell). option_map_or (λ cell. cell.code) o Empty) (cell_there items seen old p has) ∙ again_code (old.cells p) (seen.view.value p) (seen.version p))
     ∙ page_written seen.view items
 
 view_is : (component : Component) (held : Held) (view : View) → ShowsHeld component held view → view ≡ view_of component held

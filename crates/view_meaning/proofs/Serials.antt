@@ -1,9 +1,9 @@
 -- Serials: who keeps one, and who takes which.
-use Rattle.std.proofs.Common.{◌≡◌, ℕ, zero, suc, ◌+◌, ◌≤◌, ◌<◌, min, inl, inr, ◌⊎◌, if◌then◌else◌, Bool, true, false, length, List, [], ◌∷◌, map, Option, Some, None, unwrap_or, refl, sym, ap, subst, ◌∙◌, arith}
+use Rattle.std.proofs.Common.{◌≡◌, ℕ, suc, ◌+◌, ◌≤◌, ◌<◌, min, inl, inr, ◌⊎◌, if◌then◌else◌, Bool, true, false, length, List, [], ◌∷◌, map, Option, Some, None, unwrap_or, refl, sym, ap, subst, ◌∙◌, arith}
 use Rattle.std.specs.Option.{option_map}
 use Rattle.values.specs.declared.code.Code.{Code}
 use Rattle.values.specs.Evaluation.{is_same}
-use Rattle.outside.specs.Counts.{last_count, next_count}
+use Rattle.outside.specs.Counts.{last_count}
 use Rattle.component_items.specs.declared.component.Item.{Item}
 use Rattle.plain_evaluation.proofs.Places.{same_code}
 use Rattle.view_meaning.specs.Counted.{AreCounted}

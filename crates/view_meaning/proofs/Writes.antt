@@ -13,7 +13,7 @@ use Rattle.component_items.specs.declared.component.Item.TheOpen as level
 use Rattle.component_items.specs.declared.component.Item.TheOpen.{Item-F}
 use Rattle.component_items.specs.declared.component.Item.TheViews.{roll-Item}
 use Rattle.component_items.specs.declared.component.Item.TheFolds.{fold-roll-Item, map-Item, ind-Item}
-use Rattle.plain_evaluation.specs.Page.{View, attr_with, attr_bytes, joined, opening, closing, page_step, item_bytes, items_bytes, page_in}
+use Rattle.plain_evaluation.specs.Page.{View, attr_bytes, joined, closing, page_step, item_bytes, items_bytes, page_in}
 use Rattle.plain_evaluation.specs.Place.{place_at}
 use Rattle.view_meaning.specs.Parts.{Part, begins, begun, area, branch, row, attr_part, parts_joined, ending, parts_step, item_parts, items_parts, parts_in, part_bytes, parts_bytes}
 

@@ -1,5 +1,5 @@
 -- Serials of mounted rows.
-use Rattle.std.specs.Prelude.{ℕ, suc, if◌then◌else◌, Bool, true, false, List, [], ◌∷◌, Option, Some, None, unwrap_or}
+use Rattle.std.specs.Prelude.{ℕ, suc, if◌then◌else◌, List, [], ◌∷◌, Option, Some, None, unwrap_or}
 use Rattle.std.specs.Option.{option_map}
 use Rattle.values.specs.declared.code.Code.{Code}
 use Rattle.values.specs.Evaluation.{is_same}

@@ -7,7 +7,6 @@ use Rattle.component_items.specs.declared.component.Component.{Component}
 use Rattle.component_items.specs.declared.component.Item.TheVariants as item
 use Rattle.plain_evaluation.specs.Held.{Held, nothing, value, stored}
 use Rattle.plain_evaluation.specs.Page.{view_of}
-use Rattle.plain_evaluation.specs.Place.{Place}
 use Rattle.plain_evaluation.specs.Rows.{number, rows_of, store_row}
 use Rattle.view_meaning.specs.Mounted.{Seen, Mounted, nothing_mounted, mounted_after}
 
