@@ -1,0 +1,5 @@
+pub mod Parts
+pub mod Serials
+pub mod Counted
+pub mod Mounted
+pub mod Worked
