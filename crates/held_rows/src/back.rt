@@ -28,44 +28,46 @@ pub fn write_back(held: &mut Held, component: &Component, names: &Names, rows: &
     ensures fits_still { IsOf component.now held.new }
 {
     let _items = component.items();
+    let mut near = 0;
     for id in 0..held.count() {
-        write_holding(held, names, rows, id as u32);
+        write_holding(held, names, rows, id as u32, &mut near);
     }
 }
 
-/// The same of one id.
-fn write_holding(held: &mut Held, names: &Names, rows: &[Opened], id: u32)
+/// The same of one id. The rows of sources follow one another in the order of their ids, so that each is looked for
+/// first at `near`, behind the one before it.
+fn write_holding(held: &mut Held, names: &Names, rows: &[Opened], id: u32, near: &mut u32)
     requires packed { ArePacked rows.now }
     requires ids { HasIds id (store_of held.old.held id) }
     ensures { held.new ≡ with_held held.old (with_holding held.old.held id (holding_shown names.now (value_in rows.now) id (holding_of held.old.held id))) }
 {
     if held.value(id).is_some() {
-        write_signal(held, names, rows, id);
+        write_signal(held, names, rows, id, near);
     } else if let Some(store) = held.store(id) {
-        write_store(store, names, rows, id);
+        write_store(store, names, rows, id, near);
     }
 }
 
 /// Gives the live signal with the id the value of its row, where it has one.
-fn write_signal(held: &mut Held, names: &Names, rows: &[Opened], id: u32)
+fn write_signal(held: &mut Held, names: &Names, rows: &[Opened], id: u32, near: &mut u32)
     requires packed { ArePacked rows.now }
     requires signal { IsSome (signal_of held.old.held id) }
     ensures { held.new ≡ with_held held.old (with_holding held.old.held id (holding_shown names.now (value_in rows.now) id (holding_of held.old.held id))) }
 {
-    if let Some(row) = names.find(id) {
+    if let Some(row) = names.row_near(NodePlace::outside(id), *near) {
+        *near = row.wrapping_add(1);
         held.put(id, row_value(rows, row));
     }
 }
 
 /// Gives each field of each row of the store with the id the value of its row of the plan.
-fn write_store(store: &mut Rows, names: &Names, rows: &[Opened], id: u32)
+fn write_store(store: &mut Rows, names: &Names, rows: &[Opened], id: u32, near: &mut u32)
     requires packed { ArePacked rows.now }
     requires ids { HasIds id (Some store.old) }
     ensures { store.new ≡ with_rows store.old (map (row_shown names.now (value_in rows.now) id) store.old.rows) }
 {
-    let mut near = 0;
     for place in 0..store.count() {
-        write_row(store, names, rows, id, place, &mut near);
+        write_row(store, names, rows, id, place, near);
     }
 }
 
