@@ -1,5 +1,5 @@
 -- The stack of frames: what each turn leaves, and that less is left to do.
-use Rattle.std.proofs.Common.{◌≡◌, ◌≢◌, ℕ, zero, suc, ◌+◌, ◌-◌, ◌*◌, ◌<◌, ◌≤◌, ◌⊎◌, inl, inr, List, [], ◌∷◌, slice_get, Some, None, length, set, Contains, refl, sym, ap, subst, ◌∙◌, arith, Bool, true, false, if◌then◌else◌}
+use Rattle.std.proofs.Common.{◌≡◌, ◌≢◌, ℕ, zero, suc, ◌+◌, ◌-◌, ◌*◌, ◌<◌, ◌≤◌, ◌⊎◌, inl, inr, List, [], ◌∷◌, slice_get, Some, None, length, set, Contains, refl, sym, ap, subst, ◌∙◌, arith, Bool, true, false, if◌then◌else◌, Option, MatchOption}
 use Rattle.std.proofs.lemmas.List.{length-map}
 use Rattle.std.proofs.Math.Nat.{mul-le-mul_left}
 use Rattle.values.specs.declared.code.Code.{Code}
@@ -36,7 +36,7 @@ use Rattle.still_rows.specs.Frames.{AreLawful, IsConfirmed, IsGoing, IsFrameOf, 
 use Rattle.still_rows.specs.Moves.{room, begun_left, going_left, work_left, IsKept, IsRun, IsBelow}
 use Rattle.still_rows.specs.Since.{IsSeen, finished_row, kept_row, IsBodyAfter}
 use Rattle.still_rows.specs.Ends.{IsCauseOf, IsRunRecorded, IsFinished, IsRunnable}
-use Rattle.still_rows.specs.Works.{IsUnder, IsStack, unclean_count, width, work_of, top_work, total, IsStill, IsStepped, IsOnward, StayPast}
+use Rattle.still_rows.specs.Works.{IsUnder, IsStack, unclean_count, width, work_of, top_work, total, IsStill, IsStepped, IsOnward, StayPast, with_top}
 use Rattle.still_rows.proofs.FramesLemmas.{reads_back, confirmed_values, named_memo}
 use Rattle.still_rows.proofs.Written.{IsWritten, written_good, frame_kept}
 use Rattle.still_rows.proofs.MovesLemmas.{frame_from, reads_fit_room, first_is_frame}
@@ -129,6 +129,11 @@ stack_over nodes rows root m y0 y here u clean grows [] is = (λ z at.
 stack_over nodes rows root m y0 y here u clean grows (g ∷ gs) is =
     let above = is.0 in
     (frame_kept nodes rows m y0 y g here u grows (λ e. absurd (omega arith)) is.1, is.2, under_kept nodes rows root m y0 y here u grows g.node gs (omega arith) is.3)
+
+-- the top was taken off, where there was one
+pub popped : (top : Option Frame) (old new : List Frame) → MatchOption top ((old ≡ []) × (new ≡ [])) (λ f. old ≡ f ∷ new) → with_top top new ≡ old
+popped None old new is = is.1 ∙ sym is.0
+popped (Some f) old new is = sym is
 
 pub stepped_same : (nodes : List PlanNode) (rows : List Opened) (readers : Readers) (c : Clock) → IsStill nodes rows readers c → IsStepped nodes rows rows readers readers c c
 stepped_same nodes rows readers c still = record { still = still; since = since_same rows c; values = refl; effects = (λ i n at k. refl); have_read = (λ m r h. h); spent = omega arith }

@@ -30,6 +30,11 @@ abbrev pub IsStack : List PlanNode → List Opened → ℕ → List Frame → Ty
 IsStack nodes rows root [] = (y : Opened) → slice_get rows root ≡ Some y → is_clean y.colour ≡ true
 IsStack nodes rows root (f ∷ fs) = IsFrame nodes rows f × IsMemo nodes f.node × IsUnder nodes rows root f.node fs
 
+-- the frames of the stack, and the top where it is kept beside them
+abbrev pub with_top : Option Frame → List Frame → List Frame
+with_top None fs = fs
+with_top (Some f) fs = f ∷ fs
+
 -- as many rows are not clean
 unfoldable pub unclean_count : List Opened → ℕ
 unclean_count [] = 0

@@ -1,5 +1,5 @@
 //! Bringing a memo up to date.
-ghost use Rattle.std.specs.Prelude.{◌≡◌, ◌<◌, ◌≤◌, ◌+◌, ◌∷◌, [], length, slice_get, Some, OnOk, OnErr, false, true};
+ghost use Rattle.std.specs.Prelude.{◌≡◌, ◌<◌, ◌≤◌, ◌+◌, ◌∷◌, [], length, slice_get, Some, None, IfOk, OnOk, OnErr, false, true};
 ghost use Rattle.values.specs.declared.plan.PlanNode.{PlanNode as NodeValue};
 ghost use Rattle.values.specs.Reserved.{room_of};
 ghost use Rattle.sources.specs.declared.opening.Opened.{Opened as OpenedValue};
@@ -9,7 +9,7 @@ ghost use Rattle.work_order.specs.Order.{first_frame};
 ghost use Rattle.still_rows.specs.Frames.{AreLawful, IsFrame, IsMemo};
 ghost use Rattle.still_rows.specs.Moves.{LeadsTo, IsStopped};
 ghost use Rattle.still_rows.specs.Shown.{HasRoom};
-ghost use Rattle.still_rows.specs.Works.{IsStack, IsStill, IsStepped, IsOnward, StayPast, unclean_count, HasUncleanMemo, work_of, EndsAs};
+ghost use Rattle.still_rows.specs.Works.{IsStack, IsStill, IsStepped, IsOnward, StayPast, unclean_count, HasUncleanMemo, work_of, EndsAs, with_top};
 
 use crate::clock::{Clock, Full};
 use crate::moves::{lead, next_of_frame, node_at, row_at};
@@ -69,7 +69,9 @@ fn end(
     }
 }
 
-/// The work on one frame by the order of work, until a source comes first or the node is done.
+/// The work on one frame by the order of work, until a source comes first or the node is done. It is
+/// compiled into the loops that call it, so that the frame stays out of memory.
+#[inline(always)]
 pub fn go_on(nodes: &[PlanNode], rows: &[Opened], reads: &mut Reads, frame: Frame) -> Gone
     requires lawful { AreLawful nodes.now }
     requires good { IsGood nodes.now rows.now }
@@ -90,7 +92,9 @@ pub fn go_on(nodes: &[PlanNode], rows: &[Opened], reads: &mut Reads, frame: Fram
     Gone { frame: led, ended }
 }
 
-/// One turn of the top frame: it goes on until a source comes first, or until its row is written.
+/// One turn of the top frame: it goes on until a source comes first, or until its row is written. The
+/// answer is the frame that is on top then, if there is one; the others lie on the stack.
+#[inline(always)]
 fn turn(
     nodes: &[PlanNode],
     rows: &mut [Opened],
@@ -100,7 +104,7 @@ fn turn(
     reads: &mut Reads,
     frame: Frame,
     _root: u32,
-) -> Result<(), Full>
+) -> Result<Option<Frame>, Full>
     requires still { IsStill nodes.now rows.old readers.old clock.old }
     requires within { _root < length nodes.now }
     requires stack { IsStack nodes.now rows.old _root (frame ∷ frames.old) }
@@ -108,7 +112,8 @@ fn turn(
     ensures room { room_of reads.new ≡ room_of reads.old }
     ensures stepped { IsStepped nodes.now rows.old rows.new readers.old readers.new clock.old clock.new }
     ensures past { StayPast _root rows.old rows.new }
-    ensures onward { OnOk result (IsOnward nodes.now rows.old rows.new _root (frame ∷ frames.old) frames.new) }
+    ensures onward { IfOk result (λ top. IsOnward nodes.now rows.old rows.new _root (frame ∷ frames.old) (with_top top frames.new)) }
+    ensures ended { IfOk result (λ top. top ≡ None → frames.new ≡ []) }
     ensures full { OnErr result (65536 ≤ clock.new.drawn) }
     ensures left { OnErr result (0 < unclean_count rows.new) }
     ensures memo_left { OnErr result (HasUncleanMemo nodes.now rows.new) }
@@ -118,12 +123,17 @@ fn turn(
         Ended::Below(source) => {
             let first = Frame::new(source, row_at(rows, source).body.cause);
             frames.push(gone.frame);
-            frames.push(first);
+            Ok(Some(first))
         }
-        Ended::Keep => keep(rows, gone.frame.node),
-        Ended::Finish(code) => finish(rows, readers, clock, reads, gone.frame, code)?,
+        Ended::Keep => {
+            keep(rows, gone.frame.node);
+            Ok(frames.pop())
+        }
+        Ended::Finish(code) => {
+            finish(rows, readers, clock, reads, gone.frame, code)?;
+            Ok(frames.pop())
+        }
     }
-    Ok(())
 }
 
 /// Brings a memo that is not clean up to date, by the order of work. It takes no memory. After `Full`
@@ -151,9 +161,9 @@ pub fn bring_up(
     ensures memo_left { OnErr result (HasUncleanMemo nodes.now rows.new) }
 {
     frames.clear();
-    frames.push(Frame::new(root, row_at(rows, root).body.cause));
-    while let Some(frame) = frames.pop() {
-        turn(nodes, rows, readers, clock, frames, reads, frame, root)?;
+    let mut top = Some(Frame::new(root, row_at(rows, root).body.cause));
+    while let Some(frame) = top {
+        top = turn(nodes, rows, readers, clock, frames, reads, frame, root)?;
     }
     Ok(())
 }

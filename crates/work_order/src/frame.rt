@@ -19,11 +19,11 @@ pub enum Due {
 /// node are compared. Once it is cleared it is a check, in which they are brought up to date, or a run.
 #[derive(Clone, Copy, Debug, PartialEq, Eq)]
 pub struct Frame {
-    /// The node's row.
-    pub node: u32,
     /// So many recorded sources, from the first on, are as they were recorded. Where the next one
     /// differs, its place.
     pub at: usize,
+    /// The node's row. It stands here, and not first, so that a frame has 16 bytes.
+    pub node: u32,
     /// Why a run is due.
     pub due: Due,
     /// Whether the work on the node is past its beginning.

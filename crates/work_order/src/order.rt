@@ -103,5 +103,6 @@ pub fn needs_number(before: u64, code: Code) -> bool
     requires { IsPacked before }
     ensures { IsTrue result ↔ (unpacked before ≢ code) }
 {
-    Code::unpack(before) != Some(code)
+    let after = code.pack();
+    before != after
 }

@@ -1,4 +1,4 @@
-use Rattle.std.proofs.Common.{◌≡◌, ℕ, ◌<◌, ◌∷◌, List, length, slice_get, refl, sym, subst, ap, ◌∙◌, arith}
+use Rattle.std.proofs.Common.{◌≡◌, ℕ, ◌<◌, ◌∷◌, List, slice_get, refl, sym, subst, ap, arith}
 use Rattle.work_order.specs.declared.frame.Frame.{Frame}
 use Rattle.sources.specs.declared.opening.Opened.{Opened}
 use Rattle.still_rows.specs.declared.bring.Ended.{Ended}
@@ -6,7 +6,7 @@ use Rattle.still_rows.specs.declared.clock.Clock.{Clock}
 use Rattle.work_order.specs.Order.{first_frame}
 use Rattle.still_rows.specs.Frames.{IsMemo}
 use Rattle.still_rows.specs.Works.{IsStepped, IsOnward, StayPast, EndsAs, unclean_count, HasUncleanMemo}
-use Rattle.still_rows.proofs.WorksLemmas.{row_of, node_of, stepped_same, some_unclean, below_steps, keep_steps, finish_steps, few_under, run_runs, gone_stack, gone_less, frame_low, past_written}
+use Rattle.still_rows.proofs.WorksLemmas.{row_of, node_of, stepped_same, some_unclean, below_steps, keep_steps, finish_steps, few_under, run_runs, gone_stack, gone_less, frame_low, past_written, popped}
 use Rattle.still_rows.proofs.FreshLemmas.{any_err}
 use Rattle.still_rows.proofs.bring.turn.Goals as goal
 
@@ -23,10 +23,6 @@ row_at-requires c =
 pub push-requires : goal.push-requires
 push-requires c =
     let u = few_under _ _ _ _ c.args.frames.now c.requires.stack.2 in let w = c.requires.within in let f = c.requires.still.lawful.few in omega arith
-
-pub push-requires-in-Below : goal.push-requires-in-Below
-push-requires-in-Below c =
-    let u = few_under _ _ _ _ c.args.frames.now c.requires.stack.2 in let w = c.requires.within in let f = c.requires.still.lawful.few in let l = ap length c.push.ensures in omega arith
 
 pub keep-requires : goal.keep-requires
 keep-requires c = let e = c.go_on-gone.ensures in let f = e.frame.below in let p = c.requires.still.good.paired in omega arith
@@ -71,10 +67,8 @@ returns-in-Below-clause-onward c =
     let m = subst (λ (q : Ended). EndsAs c.args.nodes.now c.args.rows.now node.0 row.0 g c.go_on-gone.new.reads.list q) c.in-Below.is (e.ended node.0 row.0 node.1 row.1) in
     let y = c.row_at.result.now in
     let first : c.new-first.result ≡ first_frame c.in-Below.source y.body.cause = c.new-first.ensures in
-    let e1 : c.push.new.self ≡ g ∷ c.args.frames.now = c.push.ensures in
-    let e2 : c.push-in-Below.new.self ≡ c.new-first.result ∷ c.push.new.self = c.push-in-Below.ensures in
-    let e3 : c.push-in-Below.new.self ≡ first_frame c.in-Below.source y.body.cause ∷ g ∷ c.args.frames.now = e2 ∙ (λ i. first i ∷ e1 i) in
-    subst (λ (l : List Frame). IsOnward c.args.nodes.now c.args.rows.now c.args.rows.now c.args._root (c.args.frame ∷ c.args.frames.now) l) (sym e3)
+    let pushed : c.new-first.result ∷ c.push.new.self ≡ first_frame c.in-Below.source y.body.cause ∷ g ∷ c.args.frames.now = λ i. first i ∷ c.push.ensures i in
+    subst (λ (l : List Frame). IsOnward c.args.nodes.now c.args.rows.now c.args.rows.now c.args._root (c.args.frame ∷ c.args.frames.now) l) (sym pushed)
     (gone_less _ _ _ _ c.args.frame g c.args.frames.now _ e.node e.less
     (below_steps _ _ _ c.in-Below.source g c.args.frames.now node.0 y c.requires.still.lawful c.requires.still.good stack node.1 m c.row_at.ensures))
 
@@ -97,9 +91,10 @@ returns-in-Keep-clause-onward c =
     let node = node_of c.args.nodes.now c.args.rows.now g e.frame in
     let row = row_of c.args.nodes.now c.args.rows.now g c.requires.still.good e.frame in
     let m = subst (λ (q : Ended). EndsAs c.args.nodes.now c.args.rows.now node.0 row.0 g c.go_on-gone.new.reads.list q) c.in-Keep.is (e.ended node.0 row.0 node.1 row.1) in
-    subst (λ (r : List Opened). IsOnward c.args.nodes.now c.args.rows.now r c.args._root (c.args.frame ∷ c.args.frames.now) c.args.frames.now) (sym (c.keep.ensures row.0 row.1))
+    subst (λ (l : List Frame). IsOnward c.args.nodes.now c.args.rows.now c.keep.new.rows c.args._root (c.args.frame ∷ c.args.frames.now) l) (sym (popped c.pop.result c.args.frames.now c.pop.new.self c.pop.ensures))
+    (subst (λ (r : List Opened). IsOnward c.args.nodes.now c.args.rows.now r c.args._root (c.args.frame ∷ c.args.frames.now) c.args.frames.now) (sym (c.keep.ensures row.0 row.1))
     (gone_less _ _ _ _ c.args.frame g c.args.frames.now _ e.node e.less
-    (keep_steps _ _ _ c.args.readers.now c.args.clock.now g c.args.frames.now node.0 row.0 c.requires.still stack node.1 row.1 m).1)
+    (keep_steps _ _ _ c.args.readers.now c.args.clock.now g c.args.frames.now node.0 row.0 c.requires.still stack node.1 row.1 m).1))
 
 pub returns-in_ok-finish-in-Finish-clause-stepped : goal.returns-in_ok-finish-in-Finish-clause-stepped
 returns-in_ok-finish-in-Finish-clause-stepped c =
@@ -121,8 +116,9 @@ returns-in_ok-finish-in-Finish-clause-onward c =
     let row = row_of c.args.nodes.now c.args.rows.now g c.requires.still.good e.frame in
     let m = subst (λ (q : Ended). EndsAs c.args.nodes.now c.args.rows.now node.0 row.0 g c.go_on-gone.new.reads.list q) c.in-Finish.is (e.ended node.0 row.0 node.1 row.1) in
     let w = c.in_ok-finish-in-Finish.ensures in
-    gone_less _ _ _ _ c.args.frame g c.args.frames.now _ e.node e.less
-    (finish_steps _ _ _ _ _ _ _ _ g c.args.frames.now node.0 row.0 c.in-Finish.code c.go_on-gone.new.reads.list c.requires.still stack node.1 row.1 m w.clock (w.finished row.0 row.1)).1
+    subst (λ (l : List Frame). IsOnward c.args.nodes.now c.args.rows.now c.finish.new.rows c.args._root (c.args.frame ∷ c.args.frames.now) l) (sym (popped c.pop-in-Finish.result c.args.frames.now c.pop-in-Finish.new.self c.pop-in-Finish.ensures))
+    (gone_less _ _ _ _ c.args.frame g c.args.frames.now _ e.node e.less
+    (finish_steps _ _ _ _ _ _ _ _ g c.args.frames.now node.0 row.0 c.in-Finish.code c.go_on-gone.new.reads.list c.requires.still stack node.1 row.1 m w.clock (w.finished row.0 row.1)).1)
 
 pub returns-in_err-finish-in-Finish-clause-full : goal.returns-in_err-finish-in-Finish-clause-full
 returns-in_err-finish-in-Finish-clause-full c =
