@@ -3,7 +3,7 @@ use Rattle.std.specs.Prelude.{ℕ, ◌+◌, ◌==◌, Bool, true, false, if◌th
 use Rattle.std.specs.List.{list_any}
 use Rattle.component_items.specs.declared.component.Attr.{Attr}
 use Rattle.component_items.specs.declared.component.Item.{Item}
-use Rattle.component_meaning.specs.State.{State, What, Declared, Frame, area_frame, if_frame, each_frame, element_frame, Open, open_attrs}
+use Rattle.component_meaning.specs.State.{State, Declared, Frame, element_frame, Open, open_attrs}
 use Rattle.component_meaning.specs.Actions.{item_of}
 use Rattle.component_meaning.specs.Names.{name_of}
 

@@ -14,6 +14,7 @@ use text_grammar::component::Terminal;
 use text_grammar::{Class, kind_of};
 use text_lexer::{BadToken, Lexer, Token};
 use token_parts::{goes_on, is_full, is_part, place_of, value_up_to};
+use values::Texts;
 use values::limits::GREATEST_NUMBER;
 
 /// Whether no element of this tag may stand in a page.
@@ -100,6 +101,17 @@ fn attribute_refusal(draft: &Draft) -> Option<Refusal>
     room_refusal(draft)
 }
 
+/// Whether the text of this number in the table is the name. That costs less than to look the name up.
+fn is_numbered(texts: &Texts, number: u32, name: &str) -> bool
+    ensures { result ≡ names.is_text name.now texts.now (Some number) }
+{
+    let _ = texts.len();
+    match texts.get(number) {
+        Some(text) => text == name,
+        None => false,
+    }
+}
+
 /// Whether the whole name is the tag of the innermost open element.
 fn is_open_tag(draft: &Draft) -> bool
     ensures { result ≡ names.is_open_tag draft.now.spelling.bytes draft.now }
@@ -107,10 +119,7 @@ fn is_open_tag(draft: &Draft) -> bool
     let Some(tag) = draft.blocks.open_tag() else {
         return false;
     };
-    match draft.texts.find(draft.spelling.as_str()) {
-        Some(number) => number == tag,
-        None => false,
-    }
+    is_numbered(&draft.texts, tag, draft.spelling.as_str())
 }
 
 /// Why the whole name may be no tag of an element that closes.

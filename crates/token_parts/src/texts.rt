@@ -49,13 +49,9 @@ pub fn add_found(
     ensures room { OnOk result (spec.is_full text.now texts.old ≡ false) }
     ensures refused { IfErr result (RefusesText (spec.is_full text.now texts.old) place) }
 {
-    if let Some(number) = found {
-        return Ok(number);
-    }
-    match texts.add(text) {
-        Ok(number) => Ok(number),
-        Err(TextRefusal::Full) => Err(Refusal::Bad(Why::TooLarge(Count::Texts), place)),
-        Err(TextRefusal::NoMemory) => Err(Refusal::NoMemory),
+    match found {
+        Some(number) => Ok(number),
+        None => add_text(texts, text, place),
     }
 }
 
@@ -66,8 +62,11 @@ pub fn add_text(texts: &mut Texts, text: &str, place: Place) -> Result<u32, Refu
     ensures room { OnOk result (spec.is_full text.now texts.old ≡ false) }
     ensures refused { IfErr result (RefusesText (spec.is_full text.now texts.old) place) }
 {
-    let found = texts.find(text);
-    add_found(texts, found, text, place)
+    match texts.add(text) {
+        Ok(number) => Ok(number),
+        Err(TextRefusal::Full) => Err(Refusal::Bad(Why::TooLarge(Count::Texts), place)),
+        Err(TextRefusal::NoMemory) => Err(Refusal::NoMemory),
+    }
 }
 
 /// The number of what a text says, which is added where the table does not hold it yet. A full table refuses it at
