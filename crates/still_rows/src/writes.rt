@@ -93,7 +93,8 @@ fn put(rows: &mut [Opened], node: u32, cause: Cause, code: u64, version: u64, re
 }
 
 /// A run is whole, with these reads and this version: its row has them, with its cause, and its node
-/// has read the rows.
+/// has read the rows. It is compiled into its callers, as `go_on` is.
+#[inline(always)]
 pub fn record_run(
     rows: &mut [Opened],
     readers: &mut Readers,
