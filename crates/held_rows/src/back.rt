@@ -14,7 +14,7 @@ ghost use Rattle.held_rows.specs.Writing.{ArePacked, HasIds, with_field_shown};
 
 use component_items::Component;
 use held_state::Held;
-use node_names::Names;
+use node_names::{Names, NodePlace};
 use sources::Opened;
 use store_fields::Rows;
 use values::Code;
@@ -28,48 +28,51 @@ pub fn write_back(held: &mut Held, component: &Component, names: &Names, rows: &
     ensures fits_still { IsOf component.now held.new }
 {
     let _items = component.items();
+    let mut near = 0;
     for id in 0..held.count() {
-        write_holding(held, names, rows, id as u32);
+        write_holding(held, names, rows, id as u32, &mut near);
     }
 }
 
-/// The same of one id.
-fn write_holding(held: &mut Held, names: &Names, rows: &[Opened], id: u32)
+/// The same of one id. The rows of sources follow one another in the order of their ids, so that each is looked for
+/// first at `near`, behind the one before it.
+fn write_holding(held: &mut Held, names: &Names, rows: &[Opened], id: u32, near: &mut u32)
     requires packed { ArePacked rows.now }
     requires ids { HasIds id (store_of held.old.held id) }
     ensures { held.new ≡ with_held held.old (with_holding held.old.held id (holding_shown names.now (value_in rows.now) id (holding_of held.old.held id))) }
 {
     if held.value(id).is_some() {
-        write_signal(held, names, rows, id);
+        write_signal(held, names, rows, id, near);
     } else if let Some(store) = held.store(id) {
-        write_store(store, names, rows, id);
+        write_store(store, names, rows, id, near);
     }
 }
 
 /// Gives the live signal with the id the value of its row, where it has one.
-fn write_signal(held: &mut Held, names: &Names, rows: &[Opened], id: u32)
+fn write_signal(held: &mut Held, names: &Names, rows: &[Opened], id: u32, near: &mut u32)
     requires packed { ArePacked rows.now }
     requires signal { IsSome (signal_of held.old.held id) }
     ensures { held.new ≡ with_held held.old (with_holding held.old.held id (holding_shown names.now (value_in rows.now) id (holding_of held.old.held id))) }
 {
-    if let Some(row) = names.find(id) {
+    if let Some(row) = names.row_near(NodePlace::outside(id), *near) {
+        *near = row.wrapping_add(1);
         held.put(id, row_value(rows, row));
     }
 }
 
 /// Gives each field of each row of the store with the id the value of its row of the plan.
-fn write_store(store: &mut Rows, names: &Names, rows: &[Opened], id: u32)
+fn write_store(store: &mut Rows, names: &Names, rows: &[Opened], id: u32, near: &mut u32)
     requires packed { ArePacked rows.now }
     requires ids { HasIds id (Some store.old) }
     ensures { store.new ≡ with_rows store.old (map (row_shown names.now (value_in rows.now) id) store.old.rows) }
 {
     for place in 0..store.count() {
-        write_row(store, names, rows, id, place);
+        write_row(store, names, rows, id, place, near);
     }
 }
 
 /// The same of the row at one place.
-fn write_row(store: &mut Rows, names: &Names, rows: &[Opened], id: u32, place: u32)
+fn write_row(store: &mut Rows, names: &Names, rows: &[Opened], id: u32, place: u32, near: &mut u32)
     requires packed { ArePacked rows.now }
     requires ids { HasIds id (Some store.old) }
     ensures { (row : RowValue) → slice_get store.old.rows place ≡ Some row → store.new ≡ with_rows store.old (slice_set store.old.rows place (row_shown names.now (value_in rows.now) id row)) }
@@ -80,11 +83,19 @@ fn write_row(store: &mut Rows, names: &Names, rows: &[Opened], id: u32, place: u
     };
     let key = row.key;
     let count = row.fields.len();
-    write_fields(store, names, rows, id, key, count);
+    write_fields(store, names, rows, id, key, count, near);
 }
 
 /// The same of all fields of the row with the key. Each row has so many.
-fn write_fields(store: &mut Rows, names: &Names, rows: &[Opened], id: u32, key: Code, count: usize)
+fn write_fields(
+    store: &mut Rows,
+    names: &Names,
+    rows: &[Opened],
+    id: u32,
+    key: Code,
+    count: usize,
+    near: &mut u32,
+)
     requires packed { ArePacked rows.now }
     requires ids { HasIds id (Some store.old) }
     requires count { count ≡ store.old.width }
@@ -92,18 +103,28 @@ fn write_fields(store: &mut Rows, names: &Names, rows: &[Opened], id: u32, key: 
 {
     let _count = store.count();
     for field in 0..count {
-        write_field(store, names, rows, id, key, field as u32);
+        write_field(store, names, rows, id, key, field as u32, near);
     }
 }
 
-/// The same of one field of the row with the key.
-fn write_field(store: &mut Rows, names: &Names, rows: &[Opened], id: u32, key: Code, field: u32)
+/// The same of one field of the row with the key. Its row of the plan is looked for first at `near`, and the field
+/// behind it stands in the row behind that.
+fn write_field(
+    store: &mut Rows,
+    names: &Names,
+    rows: &[Opened],
+    id: u32,
+    key: Code,
+    field: u32,
+    near: &mut u32,
+)
     requires packed { ArePacked rows.now }
     requires ids { HasIds id (Some store.old) }
     requires within { field < store.old.width }
     ensures { store.new ≡ with_rows store.old (with_field_shown names.now (value_in rows.now) (2 + id + field) key field store.old.rows) }
 {
-    if let Some(row) = names.find_field(2 + id + field, key) {
+    if let Some(row) = names.row_near(NodePlace::of_row(2 + id + field, key), *near) {
+        *near = row.wrapping_add(1);
         store.set_field(key, field, row_value(rows, row));
     }
 }

@@ -2,7 +2,8 @@
 ghost use Rattle.std.specs.Prelude.{◌≡◌, ◌++◌, map, IfOk, OnOk};
 ghost use Rattle.std.specs.List.{flat_map};
 ghost use Rattle.std.specs.Option.{option_copied, option_map};
-ghost use Rattle.plain_evaluation.specs.Written.{written};
+ghost use Rattle.plain_evaluation.specs.Written.{state_of, written};
+ghost use Rattle.plan_meaning.specs.Layout.{places_of, plan_of};
 ghost use Rattle.held_state.specs.State.{IsOf};
 ghost use Rattle.plan_lines.specs.Lines.{placed_in};
 ghost use Rattle.plan_lines.specs.Scenes.{row_in};
@@ -11,26 +12,31 @@ ghost use Rattle.next_layout.specs.Sources.{load_shown, codes_said, codes_held, 
 use component_items::Component;
 use held_state::Held;
 use node_names::Names;
+use node_plan::{Laid, lay_out_lines};
 use phase_graph::Graph;
 use plan_lines::{Line, RowAround, write_out};
 use std::alloc::Global;
 use store_fields::Row;
 use values::{Code, Kind, NoMemory};
 
-/// The value of each source of the component's layout in held state, in order of row. A load has the value that the
-/// graph of before shows.
-pub(crate) fn source_codes(
+/// The component laid out in held state, and the value of each source of this layout, in order of row. A load has the
+/// value that the graph of before shows.
+pub(crate) fn laid_with_codes(
     alloc: Global,
     component: &Component,
     held: &Held,
     names: &Names,
     graph: &Graph,
-) -> Result<Vec<Code>, NoMemory>
+) -> Result<(Laid, Vec<Code>), NoMemory>
     requires { IsOf component.now held.now }
-    ensures { IfOk result (λ codes. codes.items ≡ codes_said (load_shown names.now graph.now) (written component.now held.now.held)) }
+    ensures plan { IfOk result (λ made. made.0.plan ≡ plan_of component.now (state_of held.now.held)) }
+    ensures names { IfOk result (λ made. made.0.names ≡ places_of (written component.now held.now.held)) }
+    ensures codes { IfOk result (λ made. made.1.items ≡ codes_said (load_shown names.now graph.now) (written component.now held.now.held)) }
 {
     let lines = write_out(alloc, component, held)?;
-    codes_of_lines(alloc, lines.as_slice(), held, names, graph)
+    let laid = lay_out_lines(alloc, component, held, lines.as_slice())?;
+    let codes = codes_of_lines(alloc, lines.as_slice(), held, names, graph)?;
+    Ok((laid, codes))
 }
 
 /// The value of each line of a source.

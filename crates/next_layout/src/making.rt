@@ -3,12 +3,12 @@ ghost use Rattle.std.specs.Prelude.{◌≡◌, ◌≤◌, length, IfOk};
 ghost use Rattle.held_state.specs.State.{IsOf};
 ghost use Rattle.next_layout.specs.Next.{IsFolded, IsNext};
 
-use crate::codes::source_codes;
+use crate::codes::laid_with_codes;
 use crate::folding::Folded;
 use component_items::Component;
 use held_state::Held;
 use node_names::Names;
-use node_plan::{Laid, lay_out};
+use node_plan::Laid;
 use phase_graph::{Graph, Relaid};
 use row_carrying::rows_to;
 use std::alloc::Global;
@@ -55,10 +55,10 @@ impl Next {
     {
         let _items = component.items();
         let folded = Folded::new(alloc, component, held, names, graph, entries)?;
-        let Laid { plan, names: later } = lay_out(alloc, component, &folded.held)?;
+        let (laid, codes) = laid_with_codes(alloc, component, &folded.held, names, graph)?;
+        let Laid { plan, names: later } = laid;
         let to = rows_to(alloc, names, &later)?;
         let live = live_flags(alloc, &folded.held, plan.owners.len())?;
-        let codes = source_codes(alloc, component, &folded.held, names, graph)?;
         let relaid = Relaid::new(alloc, plan, live, to)?;
         Ok(Next {
             folded,

@@ -1,5 +1,5 @@
 //! The places of the rows, found by place and by row.
-ghost use Rattle.std.specs.Prelude.{◌≡◌, ◌<◌, ◌∷◌, ◌++◌, [], length, slice_get, None, IfOk, OnOk, OnErr};
+ghost use Rattle.std.specs.Prelude.{◌≡◌, ◌<◌, ◌∷◌, ◌++◌, [], length, slice_get, Some, None, IsTrue, IfOk, OnOk, OnErr};
 ghost use Rattle.values.specs.declared.limits.TheConstants.{MOST_NODES};
 ghost use Rattle.plain_evaluation.specs.Place.{outside, of_row, position_of};
 
@@ -55,6 +55,28 @@ impl Names {
     {
         let row = self.places.get_index_of(&place)?;
         Some(row as u32)
+    }
+
+    /// The same, where the place may well be that of the row `near`, which is looked at first.
+    pub fn row_near(&self, place: NodePlace, near: u32) -> Option<u32>
+        ensures { result ≡ position_of self.now place }
+    {
+        if self.has_at(near, place) {
+            Some(near)
+        } else {
+            self.row(place)
+        }
+    }
+
+    /// Whether the place is that of this row.
+    fn has_at(&self, row: u32, place: NodePlace) -> bool
+        ensures { IsTrue result → position_of self.now place ≡ Some row }
+    {
+        let _count = self.places.len();
+        match self.places.get_index(row as usize) {
+            Some(there) => place == *there,
+            None => false,
+        }
     }
 
     /// The row of an id outside every `each`. `None` exactly where the id has no such row.

@@ -6,7 +6,7 @@ mod nodes;
 mod owners;
 mod rows;
 
-pub use layout::{Laid, lay_out};
+pub use layout::{Laid, lay_out, lay_out_lines};
 pub use node_names::{Names, NodePlace};
 
 #[cfg(test)]

@@ -37,7 +37,7 @@ pub fn values_of(alloc: Global, component: &Component, held: &Held) -> Result<Pl
         keyed: keyed.as_slice(),
         pairs: &pairs,
     };
-    let mut values = PlaceValues::new(alloc);
+    let mut values = PlaceValues::with_room(alloc, keyed.len())?;
     if held.is_live(0) {
         evaluation.items(items, None, &mut values)?;
     }

@@ -1,5 +1,5 @@
 //! Values by place.
-ghost use Rattle.std.specs.Prelude.{◌≡◌, Some, OnOk};
+ghost use Rattle.std.specs.Prelude.{◌≡◌, Some, IfOk, OnOk};
 ghost use Rattle.plain_evaluation.specs.Place.{place_at};
 ghost use Rattle.plain_evaluation.specs.Scratch.{no_values, with_value};
 ghost use Rattle.plain_values.specs.Seen.{values_seen};
@@ -49,6 +49,14 @@ impl PlaceValues {
         PlaceValues {
             codes: HashMap::new(alloc),
         }
+    }
+
+    /// No values, with room for so many.
+    pub fn with_room(alloc: Global, room: usize) -> Result<PlaceValues, NoMemory>
+        ensures { IfOk result (λ values. values_seen values ≡ no_values) }
+    {
+        let codes = HashMap::with_capacity(alloc, room)?;
+        Ok(PlaceValues { codes })
     }
 
     /// The value of the place.

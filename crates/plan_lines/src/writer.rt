@@ -14,6 +14,7 @@ use component_items::{Attr, Component, Item};
 use held_state::Held;
 use std::alloc::Global;
 use store_fields::{Row, Rows};
+use values::limits::MOST_NODES;
 use values::{Kind, NoMemory};
 
 /// The component written out in this state: a line for each place, in text order.
@@ -25,7 +26,7 @@ pub fn write_out<'c>(
     requires { IsOf component.now held.now }
     ensures { IfOk result (λ lines. map placed_in lines.items ≡ map placed_of (written component.now held.now.held)) }
 {
-    let mut lines = Vec::new(alloc);
+    let mut lines = Vec::with_capacity(alloc, MOST_NODES)?;
     if held.is_live(0) {
         let writer = Writer { component, held };
         writer.put_items(component.items(), Scene::top(), &mut lines)?;
