@@ -11,4 +11,6 @@ pub use finish::{Finish, Outcome};
 pub use run::page;
 
 #[cfg(test)]
+mod rows;
+#[cfg(test)]
 mod tests;
