@@ -1,25 +1,17 @@
 -- A run leaves loads pending only where its loader refused.
-use Rattle.std.proofs.Common.{◌≡◌, ℕ, zero, suc, ◌+◌, ◌-◌, ◌≤◌, ◌==◌, Bool, true, false, cond, List, [], ◌∷◌, ◌++◌, length, refl, ◌∙◌, arith}
-use Rattle.std.proofs.lemmas.Bool.{eqb-true}
+use Rattle.std.proofs.Common.{◌≡◌, ℕ, zero, suc, ◌-◌, ◌≤◌, List, [], ◌∷◌, refl, ◌∙◌, arith}
 use Rattle.component_items.specs.declared.component.Component.{Component}
 use Rattle.outside.specs.Counts.{RoseByTogether}
 use Rattle.plain_evaluation.specs.Held.{Held}
 use Rattle.plain_evaluation.specs.Scratch.{pending}
 use Rattle.run_meaning.specs.Run.{Settled, Runs, none, more, states_of, refusals_owed, refusals_of}
+use Rattle.settling_rounds.proofs.Rounds.{owed_some}
 use Rattle.script_run.proofs.Rounds.{alone, refused_last}
 
 -- the last settling owes its part
 last_owed : (component : Component) (rounds : ℕ) (first last : Held) (steps : List Settled) → Runs component first steps last → refusals_owed rounds (pending component last) ≤ refusals_of component rounds (states_of first steps)
 last_owed component rounds first last steps none = let one = alone (refusals_owed rounds (pending component first)) in omega arith
 last_owed component rounds first last steps (more {past} {held} s keys r opens is e) = let all = refused_last component rounds first past s in omega arith
-
--- what is owed where a load is pending
-owed_some : (rounds id : ℕ) (ids : List ℕ) → refusals_owed rounds (id ∷ ids) ≡ (rounds - 1) + length (id ∷ ids)
-owed_some rounds id ids = by (length (id ∷ ids) == 0) refl
-  where
-    by : (b : Bool) → (length (id ∷ ids) == 0) ≡ b → cond b 0 ((rounds - 1) + length (id ∷ ids)) ≡ (rounds - 1) + length (id ∷ ids)
-    by true e = absurd (let none : length (id ∷ ids) ≡ 0 = eqb-true (length (id ∷ ids)) 0 e in omega arith)
-    by false e = refl
 
 -- which is a refusal at least, where a load is pending behind it
 owed_one : (rounds : ℕ) (loads : List ℕ) → (loads ≡ [] → ⊥) → 1 ≤ refusals_owed rounds loads

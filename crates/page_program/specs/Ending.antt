@@ -7,7 +7,7 @@ use Rattle.page_program.specs.declared.ending.Text.{Text}
 use Rattle.page_program.specs.declared.ending.Text.TheVariants.{Line, Made}
 use Rattle.page_program.specs.declared.finish.Finish.{Finish}
 use Rattle.page_program.specs.Run.{Account}
-use Rattle.still_graph.specs.Journal.{JournalState}
+use Rattle.run_journal.specs.Journal.{JournalState}
 
 abbrev pub bytes_of : Text → List ℕ
 bytes_of (Line bytes) = bytes.now

@@ -22,7 +22,7 @@ use Rattle.script_run.specs.declared.run.Ran.{Ran}
 use Rattle.lane_run.specs.Lanes.{lanes_at}
 use Rattle.script_run.specs.Phases.{IsMade}
 use Rattle.script_run.specs.Ran.{IsRanTo, GoesOn, LoaderCounts}
-use Rattle.script_run.specs.Settlings.{Settles}
+use Rattle.settling_rounds.specs.Settlings.{Settles}
 use Rattle.still_graph.specs.declared.still.Stage.TheVariants.{Made}
 use Rattle.still_graph.specs.Still.{StillState, IsSettledAfter}
 use Rattle.lane_run.proofs.Lists.{map_last}

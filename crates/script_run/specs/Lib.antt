@@ -1,5 +1,4 @@
 pub mod Today
 pub mod Phases
 pub mod Told
-pub mod Settlings
 pub mod Ran

@@ -3,7 +3,6 @@
 
 mod phase;
 mod run;
-mod settling;
 mod telling;
 mod today;
 

@@ -23,7 +23,6 @@ ghost use Rattle.script_run.specs.Today.{RunsToday};
 ghost use Rattle.still_graph.specs.declared.still.Stage.TheVariants as stage;
 
 use crate::run::Ran;
-use crate::settling::settle_rounds;
 use crate::telling::tell_edits;
 use lane_run::{edit_room, run_lanes};
 use outside::{Gate, Loader};
@@ -31,6 +30,7 @@ use report_text::put_phase;
 use run_items::{Answer, Answers};
 use run_weave::laws::{calls_make_phases, targets_of_components_fit};
 use script_items::Script;
+use settling_rounds::settle_rounds;
 use std::alloc::Global;
 use still_graph::Still;
 use values::NoMemory;

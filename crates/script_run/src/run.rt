@@ -9,11 +9,11 @@ ghost use Rattle.script_run.specs.Ran.{IsRanTo, GoesOn, LoaderCounts};
 ghost use Rattle.script_run.specs.Today.{RunsToday};
 
 use crate::phase::run_phase;
-use crate::settling::settle_rounds;
 use component_items::Component;
 use outside::{Gate, Loader};
 use run_items::Answers;
 use script_items::Script;
+use settling_rounds::settle_rounds;
 use std::alloc::Global;
 use still_graph::Still;
 use values::{NoMemory, Numbers};

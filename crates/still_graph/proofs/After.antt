@@ -45,7 +45,7 @@ use Rattle.still_graph.specs.Still.{StillState, opened_in, HasEnded}
 use Rattle.still_graph.specs.Stands.{start_with, IsLast, IsStill}
 use Rattle.still_graph.specs.declared.still.Stage.TheVariants.{Ended}
 use Rattle.still_graph.specs.Settling.{all_keep_rows}
-use Rattle.still_graph.proofs.LoadRows.{plain_load}
+use Rattle.settled_rows.proofs.LoadRows.{plain_load}
 use Rattle.still_graph.proofs.Notes.{none_disposed}
 use Rattle.still_graph.proofs.Past.{last_entries, ran_on}
 use Rattle.still_graph.proofs.Stays.{stands}

@@ -8,13 +8,14 @@ use Rattle.load_meaning.specs.Polls.{AreInStep}
 use Rattle.load_polls.specs.Loads.{LoadsState}
 use Rattle.load_polls.specs.Shown.{SourcesShow}
 use Rattle.phase_graph.specs.Graph.{GraphState, ticks_of}
-use Rattle.still_graph.specs.Finishing.{IsReady, IsMidway}
+use Rattle.settled_rows.specs.Finishing.{IsReady}
+use Rattle.still_graph.specs.Finishing.{IsMidway}
 use Rattle.still_graph.specs.Stands.{IsMade, IsAtRest, IsStill}
 use Rattle.still_graph.specs.Still.{StillState}
 use Rattle.still_graph.specs.declared.still.Stage.{Stage}
 use Rattle.still_graph.specs.declared.still.Stage.TheVariants.{Made, Settled, Open, Ended}
 use Rattle.still_graph.proofs.After.{fits_of}
-use Rattle.still_graph.proofs.Rest.{rest_shows}
+use Rattle.settled_rows.proofs.Rest.{rest_shows}
 use Rattle.still_graph.proofs.Stays.{stands}
 
 record IsBetween (x : StillState) : Type 0 where

@@ -15,7 +15,8 @@ use Rattle.load_meaning.specs.Polls.{AllPolled, all_promptly}
 use Rattle.load_polls.specs.Loads.{LoadsState}
 use Rattle.run_meaning.specs.Phase.{Phase}
 use Rattle.phase_graph.specs.Graph.{GraphState, ticks_of}
-use Rattle.still_graph.specs.Finishing.{IsReady, IsFinished, midway, IsMidway, Settles}
+use Rattle.settled_rows.specs.Finishing.{IsReady, IsFinished}
+use Rattle.still_graph.specs.Finishing.{midway, IsMidway, Settles}
 use Rattle.still_graph.specs.Stands.{IsStill}
 use Rattle.still_graph.specs.Still.{StillState, progress_of, HasRun}
 use Rattle.still_graph.specs.declared.still.Stage.TheVariants.{Settled}

@@ -19,7 +19,8 @@ use Rattle.next_layout.specs.Next.{IsLaidOut, LoadsStay}
 use Rattle.next_layout.specs.Sources.{SourcesAreSaid}
 use Rattle.next_layout.proofs.Shown.{same_arrived}
 use Rattle.phase_graph.specs.Graph.{GraphState, ticks_of}
-use Rattle.still_graph.specs.Finishing.{IsReady, IsMidway}
+use Rattle.settled_rows.specs.Finishing.{IsReady}
+use Rattle.still_graph.specs.Finishing.{IsMidway}
 use Rattle.still_graph.specs.Settling.{all_keep_rows}
 use Rattle.still_graph.specs.Still.{StillState, HasEnded}
 use Rattle.still_graph.specs.Stands.{IsStill}

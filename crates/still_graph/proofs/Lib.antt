@@ -1,9 +1,5 @@
-pub mod Owners
 pub mod Begins
-pub mod LoadRows
-pub mod Rest
 pub mod Past
-pub mod Kept
 pub mod Steps
 pub mod Stays
 pub mod Targets
@@ -14,6 +10,4 @@ pub mod Again
 pub mod InPlace
 pub mod WentOver
 pub mod Finished
-pub mod HoldsLoad
 pub mod WorkedKept
-pub mod Finishes

@@ -23,7 +23,8 @@ use Rattle.phase_edits.specs.Told.{AreTold}
 use Rattle.phase_edits.proofs.Numbers.{are_told}
 use Rattle.phase_edits.proofs.Posted.{same_edits}
 use Rattle.next_layout.specs.Next.{NextState, IsFolded, IsNext, IsLaidOut, HasGoneOver}
-use Rattle.still_graph.specs.Finishing.{IsReady, midway, IsMidway}
+use Rattle.settled_rows.specs.Finishing.{IsReady}
+use Rattle.still_graph.specs.Finishing.{midway, IsMidway}
 use Rattle.still_graph.specs.Settling.{held_folded}
 use Rattle.still_graph.specs.Still.{StillState, HasRun, HasEnded}
 use Rattle.still_graph.specs.Stands.{IsStill}

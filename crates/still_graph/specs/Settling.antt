@@ -1,26 +1,21 @@
 -- What a settling leaves: what the phase that ended left, then the loads, each polled once, and last the memos.
-use Rattle.std.specs.Prelude.{◌≡◌, ◌≤◌, ℕ, ◌+◌, Bool, true, false, List, [], ◌∷◌, ◌++◌, map}
+use Rattle.std.specs.Prelude.{◌≡◌, ℕ, Bool, true, false, List}
 use Rattle.std.specs.List.{list_all}
 use Rattle.values.specs.declared.plan.Fact.{Fact}
 use Rattle.values.specs.declared.plan.Fact.TheVariants as fact
 use Rattle.values.specs.declared.plan.Noted.{Noted}
 use Rattle.component_items.specs.declared.component.Component.{Component}
 use Rattle.outside.specs.Asks.{Ask}
-use Rattle.outside.specs.Counts.{RoseBy}
 use Rattle.outside.specs.declared.traits.Arrival.{Arrival}
-use Rattle.plain_evaluation.specs.Held.{Held, arrived_held}
-use Rattle.plain_evaluation.specs.Scratch.{pending}
+use Rattle.plain_evaluation.specs.Held.{Held}
 use Rattle.held_state.specs.State.{IsOf, with_held}
 use Rattle.load_meaning.specs.declared.late.Late.{Late}
 use Rattle.load_meaning.specs.Polls.{AllPolled, AreInStep, all_promptly}
-use Rattle.load_polls.specs.Loads.{not_yet_count, failed_count}
 use Rattle.run_meaning.specs.Edits.{held_written, held_edited, edits_of}
 use Rattle.run_meaning.specs.Entries.{disposed_in}
 use Rattle.run_meaning.specs.Phase.{Phase}
-use Rattle.run_meaning.specs.Run.{held_arrived, held_disposed}
-use Rattle.phase_graph.specs.Graph.{ticks_of}
-use Rattle.phase_edits.specs.Told.{AreTold}
-use Rattle.still_graph.specs.Still.{StillState, progress_from, progress_of, HasRun, HasEnded}
+use Rattle.run_meaning.specs.Run.{held_disposed}
+use Rattle.still_graph.specs.Still.{StillState, progress_from, progress_of, HasEnded}
 use Rattle.still_graph.specs.declared.still.Stage.TheVariants.{Made, Settled}
 
 -- ---- what the loads are polled from
@@ -45,11 +40,6 @@ pub record IsSettling {S : Type 0} (answers : S → Ask → Arrival → S → Ty
   pub is_middle : IsMiddle old middle
   pub polled : AllPolled answers old.component (progress_from old middle) (progress_of new) late before after
   pub prompt : is_prompt ≡ true → progress_of new ≡ all_promptly old.component (progress_from old middle)
-
--- the loader has counted each load that is late
-pub record AreCounted (late : List (ℕ × Late)) (not_yets_before not_yets_after faults_before faults_after : ℕ) : Type 0 where
-  pub not_yets : RoseBy (not_yet_count late) not_yets_before not_yets_after
-  pub faults : RoseBy (failed_count late) faults_before faults_after
 
 -- ---- where a phase leaves the rows that there are
 

@@ -2,17 +2,13 @@
 #![tactic(auto)]
 
 mod begun;
-mod finishing;
-mod journal;
-mod loads;
 mod phases;
 mod settling;
 mod still;
 mod ways;
 
-pub use journal::Journal;
 pub use load_polls::{Late, Pending};
-pub use loads::has_load;
+pub use run_journal::Journal;
 pub use settling::Settled;
 pub use still::{Stage, Still, Target};
 

@@ -104,7 +104,7 @@ impl Still {
 }
 
 impl Still {
-    ghost use Rattle.still_graph.specs.Journal.{no_counts};
+    ghost use Rattle.run_journal.specs.Journal.{no_counts};
 
     /// Ends the phase that is open, and puts it into the journal. It takes no memory.
     pub fn end(&mut self)

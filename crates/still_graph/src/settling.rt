@@ -7,7 +7,8 @@ ghost use Rattle.run_meaning.specs.Run.{held_arrived, after};
 ghost use Rattle.phase_graph.specs.Graph.{ticks_of};
 ghost use Rattle.phase_edits.specs.Told.{AreTold};
 ghost use Rattle.still_graph.specs.Answers.{late_of, ids_of};
-ghost use Rattle.still_graph.specs.Settling.{IsSettling, AreCounted};
+ghost use Rattle.settled_rows.specs.Finishing.{AreCounted};
+ghost use Rattle.still_graph.specs.Settling.{IsSettling};
 ghost use Rattle.still_graph.specs.Still.{IsSettledAfter, HasEnded};
 
 use crate::still::{Stage, Still};

@@ -14,13 +14,13 @@ ghost use Rattle.still_graph.specs.Still.{progress_of, opened_in};
 ghost use Rattle.still_graph.specs.Answers.{target_of};
 
 use crate::begun::Begun;
-use crate::journal::Journal;
 use component_items::Component;
 use held_state::Held;
 use id_owners::IdOwners;
 use load_polls::Loads;
 use node_names::{Names, NodePlace};
 use phase_graph::Graph;
+use run_journal::Journal;
 use sources::{Body, Colour};
 use std::alloc::Global;
 use std::marker::Model;

@@ -5,14 +5,14 @@ ghost use Rattle.run_items.specs.Journal.{JournalPhase};
 ghost use Rattle.phase_graph.specs.Graph.{ticks_of};
 ghost use Rattle.next_layout.specs.Next.{IsFolded, IsNext};
 ghost use Rattle.still_graph.specs.Finishing.{Settles};
-ghost use Rattle.still_graph.specs.Settling.{AreCounted};
+ghost use Rattle.settled_rows.specs.Finishing.{AreCounted};
 ghost use Rattle.still_graph.specs.Settling as spec;
 
-use crate::finishing::finish;
 use crate::still::{Stage, Still};
 use load_polls::Late;
 use next_layout::{Next, fold_in_place};
 use outside::Loader;
+use settled_rows::finish;
 use std::alloc::Global;
 use values::{Fact, NoMemory, Noted, Reserved};
 

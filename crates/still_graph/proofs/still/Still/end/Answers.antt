@@ -1,6 +1,6 @@
 use Rattle.std.proofs.Common.{◌∙◌, ap}
 use Rattle.std.specs.Prelude.{replicate}
-use Rattle.still_graph.specs.Journal.{no_counts}
+use Rattle.run_journal.specs.Journal.{no_counts}
 use Rattle.still_graph.specs.Still.{StillState}
 use Rattle.still_graph.proofs.Stays.{ends}
 use Rattle.still_graph.proofs.still.Still.end.Goals as goal
