@@ -60,6 +60,7 @@ impl Op {
     /// The value of the operator on two values. A sum, difference, product or quotient is the exact
     /// one, held to the ends of `i32`. Nothing comes of a division by 0, and of a side that is no
     /// number, but in `Equal`.
+    #[inline]
     pub fn combine(self, left: Code, right: Code) -> Code
         ensures { result ≡ combined self left right }
     {
@@ -71,6 +72,7 @@ impl Op {
     }
 
     /// The same on two numbers.
+    #[inline]
     fn combine_numbers(self, a: i32, b: i32) -> Code
         ensures { result ≡ combined self (Code.Number a) (Code.Number b) }
     {

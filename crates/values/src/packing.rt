@@ -41,4 +41,18 @@ impl Code {
             _ => None,
         }
     }
+
+    /// The value that packs to the word, which is one that `pack` gives.
+    #[inline]
+    pub fn from_packed(word: u64) -> Code
+        requires { IsPacked word }
+        ensures { result ≡ unpacked word }
+    {
+        let bits = (word / TAGS) as u32;
+        match word % TAGS {
+            NUMBER_TAG => Code::Number(bits.cast_signed()),
+            WORD_TAG => Code::Word(bits),
+            _ => Code::Empty,
+        }
+    }
 }
