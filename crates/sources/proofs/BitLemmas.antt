@@ -1,5 +1,5 @@
 -- Sets of numbers in words of 64 bits.
-use Rattle.std.proofs.Common.{◌≡◌, ◌≢◌, ℕ, zero, suc, IsTrue, IfSome, IfNone, MatchOption, nat_eq, ◌+◌, ◌-◌, ◌*◌, ◌/◌, ◌%◌, ◌^◌, ◌<◌, ◌≤◌, List, [], ◌∷◌, slice_get, length, get_or, set, drop, replicate, Option, Some, None, ◌⊎◌, inl, inr, refl, sym, ap, ◌∙◌, arith, Bool, true, false, ◌==◌, bit_or, bit_and, get_or-set_other, get_or-set_same}
+use Rattle.std.proofs.Common.{◌≡◌, ◌≢◌, ℕ, zero, suc, IsTrue, IfSome, IfNone, MatchOption, nat_eq, ◌+◌, ◌-◌, ◌*◌, ◌/◌, ◌%◌, ◌^◌, ◌<◌, ◌≤◌, List, [], ◌∷◌, slice_get, length, get_or, set, drop, replicate, Option, Some, None, ◌⊎◌, inl, inr, refl, sym, ap, ◌∙◌, arith, Bool, true, false, ◌==◌, not, bit_or, bit_and, get_or-set_other, get_or-set_same}
 use Rattle.std.specs.Int.{bit_at, trailing_zeros, w64}
 use Rattle.std.proofs.lemmas.List.{ext_get_or, get_or_past, get_or-replicate, length-set, length-replicate, drop-drop}
 use Rattle.std.proofs.lemmas.List.FromFn.{length-map-range_with_len, get_or-map-range_with_len}
@@ -351,6 +351,13 @@ has_bit set word number h =
       λ t. let one : bit_at word (number % 64) ≡ 1 = grind arith in let is = both.0 one in rw at at is,
       λ is. let back : IsIn set (64 * (number / 64) + number % 64) = rw at is in let one = both.1 back in rw (e, one) refl,
     )
+
+not_true : (b : Bool) (P : Type 0) → (IsTrue b → P) × (P → IsTrue b) → (IsTrue (not b) → P → ⊥) × ((P → ⊥) → IsTrue (not b))
+not_true true P h = (λ t p. absurd (grind (arith, t)), λ none. absurd (none (h.0 refl)))
+not_true false P h = (λ t p. absurd (grind (arith, h.1 p)), λ none. refl)
+
+pub is_new_bit : (set : List Bool) (word number : ℕ) → ((bit : ℕ) → bit < 64 → (bit_at word bit ≡ 1 → IsIn set (64 * (number / 64) + bit)) × (IsIn set (64 * (number / 64) + bit) → bit_at word bit ≡ 1)) → (IsTrue (not (nat_eq (bit_and (word / 2 ^ (number % 64)) 1) 1)) → IsIn set number → ⊥) × ((IsIn set number → ⊥) → IsTrue (not (nat_eq (bit_and (word / 2 ^ (number % 64)) 1) 1)))
+is_new_bit set word number h = not_true (nat_eq (bit_and (word / 2 ^ (number % 64)) 1) 1) (IsIn set number) (has_bit set word number h)
 
 pub word_bits : (words : List ℕ) (bits index : ℕ) → HoldsSet words bits → (bit : ℕ) → bit < 64 → (bit_at (get_or words index 0) bit ≡ 1 → IsIn (set_of words bits) (64 * index + bit)) × (IsIn (set_of words bits) (64 * index + bit) → bit_at (get_or words index 0) bit ≡ 1)
 word_bits words bits index holds bit l =

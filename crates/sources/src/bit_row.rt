@@ -53,14 +53,17 @@ impl BitRow {
         self.words.len()
     }
 
-    /// Puts the number in.
-    pub fn add(&mut self, bit: u32)
+    /// Puts the number in. The answer is whether it is new.
+    #[inline]
+    pub fn insert(&mut self, bit: u32) -> bool
         requires { bit < length self.old }
-        ensures { self.new ≡ slice_set self.old bit true }
+        ensures added { self.new ≡ slice_set self.old bit true }
+        ensures is_new { IsTrue result ↔ ¬ IsIn self.old bit }
     {
         let index = bit as usize / WORD_BITS;
         let word = self.words[index];
         self.words[index] = word | (1 << (bit % 64));
+        (word >> (bit % 64)) & 1 != 1
     }
 
     /// Whether the number is in.

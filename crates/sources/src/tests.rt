@@ -81,9 +81,16 @@ fn a_bit_row_is_a_set(rt: HostRuntime) -> Result<(), Fail> {
     assert_eq!(rt; set.bits(), 200);
     assert_eq!(rt; set.words(), 4);
     has_members(&rt, &set, &[]);
-    for bit in [199, 0, 64, 63, 128, 64] {
+    for (bit, is_new) in [
+        (199, true),
+        (0, true),
+        (64, true),
+        (63, true),
+        (128, true),
+        (64, false),
+    ] {
         if bit < set.bits() {
-            set.add(bit);
+            assert_eq!(rt; set.insert(bit), is_new);
         }
     }
     has_members(&rt, &set, &[0, 63, 64, 128, 199]);
@@ -105,7 +112,7 @@ fn a_bit_row_is_a_set(rt: HostRuntime) -> Result<(), Fail> {
 #[test]
 fn a_word_of_members_is_added_at_once(rt: HostRuntime) -> Result<(), Fail> {
     let mut set = BitRow::new(rt.alloc(), 128)?;
-    set.add(64);
+    assert!(rt; set.insert(64));
     set.add_word(1, 0x8000_0000_0000_0002);
     set.add_word(0, 0);
     has_members(&rt, &set, &[64, 65, 127]);

@@ -132,8 +132,26 @@ reaching_new row old new l n seen list spare = record {
     is : slice_get old.seen row ≡ Some false
     is = out_at old.seen row l n
 
-pub reaching_old : (row : ℕ) (m : Marking) → IsIn m.seen row → IsReaching row m m
+reaching_old : (row : ℕ) (m : Marking) → IsIn m.seen row → IsReaching row m m
 reaching_old row m h = record { long = refl; size = refl; room = refl; seen = h; stays = (λ i g. g); alone = (λ i g. inr g); waits = (λ x g. g); first = inl h; from = (λ x g. inr g) }
+
+set_kept : (bits : List Bool) (i : ℕ) → slice_get bits i ≡ Some true → set bits i true ≡ bits
+set_kept [] i h = refl
+set_kept (b ∷ bits) zero h = let e : b ≡ true = cc in rw e refl
+set_kept (b ∷ bits) (suc i) h = ap (λ (l : List Bool). b ∷ l) (set_kept bits i h)
+
+in_unless : (bits : List Bool) (row : ℕ) → row < length bits → ((IsIn bits row → ⊥) → ⊥) → IsIn bits row
+in_unless bits row l n = let w = within_at bits row l in by w.0 w.1
+  where
+    by : (b : Bool) → slice_get bits row ≡ Some b → IsIn bits row
+    by true e = e
+    by false e = let clash : IsIn bits row → ⊥ = (λ h. let k : true ≡ false = cc in not_both true refl k) in absurd (n clash)
+
+-- a row that was reached before
+pub reaching_again : (row : ℕ) (m : Marking) (seen : List Bool) → row < length m.seen → ((IsIn m.seen row → ⊥) → ⊥) → seen ≡ set m.seen row true → IsReaching row m (record m { seen = seen })
+reaching_again row m seen l again is =
+    let h = in_unless m.seen row l again in
+    subst (λ (s : List Bool). IsReaching row m (record m { seen = s })) (sym (is ∙ set_kept m.seen row h)) (reaching_old row m h)
 
 -- one reader is marked
 module _ (nodes : List PlanNode) (rows : List Opened) (readers : Readers) (marking marking' : Marking) (signal now p : ℕ) (u : Reader) (y0 : Opened) (direct : Bool) (is : IsSpreading nodes rows readers marking signal now (p + 1)) (at_p : slice_get readers.list p ≡ Some u) (enrolled : u.enrolled ≡ true) (r : IsReaching u.node marking marking') (here : slice_get rows u.node ≡ Some y0) (direct_is : direct ≡ (now == signal)) where

@@ -48,24 +48,15 @@ impl Marking {
     }
 
     /// The row is reached. The first time it is put among those that are still to be gone through.
+    #[inline]
     fn reach(&mut self, row: u32)
         requires within { row < length self.old.seen }
         requires room { out_count self.old.seen + length self.old.todo.list ≤ room_of self.old.todo }
         ensures { IsReaching row self.old self.new }
     {
-        if self.seen.has(row) {
+        if !self.seen.insert(row) {
             return;
         }
-        self.take_in(row);
-    }
-
-    fn take_in(&mut self, row: u32)
-        requires within { row < length self.old.seen }
-        requires room { out_count self.old.seen + length self.old.todo.list ≤ room_of self.old.todo }
-        requires out { ¬ IsIn self.old.seen row }
-        ensures { IsReaching row self.old self.new }
-    {
-        self.seen.add(row);
         self.todo.push(row);
     }
 }

@@ -102,14 +102,12 @@ fn read_row(rows: &[Opened], row: u32, reads: &mut Reads) -> Result<Code, Missin
 }
 
 /// The value that is packed in the word.
+#[inline]
 pub(crate) fn value_of(word: u64) -> Code
     requires { IsPacked word }
     ensures { result ≡ unpacked word }
 {
-    match Code::unpack(word) {
-        Some(code) => code,
-        None => Code::Empty,
-    }
+    Code::from_packed(word)
 }
 
 /// A clean row is read, at its first time.

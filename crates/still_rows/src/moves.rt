@@ -336,7 +336,8 @@ fn check_all(
 
 /// The steps on a frame that write no row, by the order of work: where the node is not cleared yet it
 /// is cleared, and then the sources that are clean are checked, up to the first that differs or is not
-/// clean.
+/// clean. It is compiled into `go_on`, so that the frame stays out of memory.
+#[inline(always)]
 pub(crate) fn lead(
     _nodes: &[PlanNode],
     rows: &[Opened],
