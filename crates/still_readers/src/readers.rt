@@ -1,8 +1,9 @@
 //! Who reads each row, and who has read it.
-ghost use Rattle.std.specs.Prelude.{◌≡◌, ◌<◌, ◌≤◌, true, false, ℕ, List, length, slice_get, slice_set, Some, None, IfSome, IfNone};
+ghost use Rattle.std.specs.Prelude.{◌≡◌, ◌+◌, ◌<◌, ◌≤◌, true, false, ℕ, List, length, slice_get, slice_set, Some, None, IfSome, IfNone};
 ghost use Rattle.values.specs.declared.plan.PlanNode.{PlanNode as NodeValue};
 ghost use Rattle.sources.specs.Bodies.{rows_read};
 ghost use Rattle.sources.specs.Rows.{IsGood};
+ghost use Rattle.sources.specs.declared.body.Read.{Read as ReadValue};
 ghost use Rattle.still_readers.specs.declared.readers.Reader.{Reader as ReaderValue};
 ghost use Rattle.still_readers.specs.Readers.{stands_in, has_recorded, IsReadersOf, IsEnrolled, HasRead, IsEnrolledAt, IsReflagged, IsPlaceIn, IsNoneIn, IsOwnReader, IsReadIn, IsExact};
 
@@ -52,40 +53,30 @@ impl Readers {
         }
     }
 
-    /// The same, where the row is likely the one of the node's reader at this place, counted from its
-    /// first one. There it takes one look.
-    pub fn enrol_read(&mut self, node: u32, row: u32, place: usize)
-        ensures at { IsEnrolledAt node row self.old self.new }
-        ensures of_plan { (nodes : List NodeValue) → IsReadersOf nodes self.old → IsReadersOf nodes self.new }
+    /// So many of these reads, from the first on, are of rows that the node has read by its readers. It
+    /// takes one step for each reader of the node. Where the reads come in the order in which the node's
+    /// expression names their rows, those that are left out are of rows that the node has not read.
+    pub fn count_read(&self, node: u32, reads: &[Read]) -> usize
+        ensures within { result ≤ length reads.now }
+        ensures read { (k : ℕ) (read : ReadValue) → k < result → slice_get reads.now k ≡ Some read → IsReadIn self.now node read.row }
     {
-        if self.has_read_at(node, row, place) {
-            return;
+        let own = self.own_readers(node);
+        let mut count = 0;
+        for reader in own {
+            if is_next(*reader, reads, count) {
+                count += 1;
+            }
         }
-        self.enrol(node, row);
+        count
     }
 
-    /// Whether the node's reader at this place, counted from its first one, has read the row.
-    fn has_read_at(&self, node: u32, row: u32, place: usize) -> bool
-        ensures { result ≡ true → IsReadIn self.now node row }
+    /// The readers of a node, in order.
+    fn own_readers(&self, node: u32) -> &[Reader]
+        ensures { (k : ℕ) (reader : ReaderValue) → slice_get result.now k ≡ Some reader → IsOwnReader self.now node reader }
     {
-        match self.reader_at(node, place) {
-            Some(reader) => has_read(reader, row),
-            None => false,
-        }
-    }
-
-    /// The node's reader at this place, counted from its first one.
-    fn reader_at(&self, node: u32, place: usize) -> Option<Reader>
-        ensures { IfSome result (λ reader. IsOwnReader self.now node reader) }
-    {
-        let span = self.spans.at(node as usize)?;
-        let at = span.from.checked_add(place)?;
-        if at >= span.to {
-            return None;
-        }
-        match self.list.at(at) {
-            Some(reader) => Some(*reader),
-            None => None,
+        match self.spans.at(node as usize) {
+            Some(span) => part(self.list.as_slice(), span.from, span.to),
+            None => &[],
         }
     }
 
@@ -163,6 +154,25 @@ fn has_read(reader: Reader, row: u32) -> bool
     ensures { result ≡ true → (reader.row ≡ row) × (reader.enrolled ≡ true) }
 {
     reader.row == row && reader.enrolled
+}
+
+/// The items from one place on and below another, or none where there are not so many.
+fn part(list: &[Reader], from: usize, to: usize) -> &[Reader]
+    ensures { (k : ℕ) (reader : ReaderValue) → slice_get result.now k ≡ Some reader →
+        (from + k < to) × (slice_get list.now (from + k) ≡ Some reader) }
+{
+    list.get(from..to).unwrap_or(&[])
+}
+
+/// Whether the reader is of the row of the read at this place, and has read it.
+fn is_next(reader: Reader, reads: &[Read], place: usize) -> bool
+    ensures { result ≡ true → (reader.enrolled ≡ true) × (place < length reads.now)
+        × ((read : ReadValue) → slice_get reads.now place ≡ Some read → reader.row ≡ read.row) }
+{
+    match reads.get(place) {
+        Some(read) => has_read(reader, read.row),
+        None => false,
+    }
 }
 
 /// Whether a row stands among the reads.

@@ -74,9 +74,10 @@ fn changed(rows: &[Opened], recorded: &[Read], at: usize) -> Cause
 fn enrol_all(readers: &mut Readers, node: u32, reads: &[Read])
     ensures { IsEnrolledFor node reads.now (length reads.now) readers.old readers.new }
 {
-    for place in 0..reads.len() {
+    let read_before = readers.count_read(node, reads);
+    for place in read_before..reads.len() {
         let read = read_at(reads, place);
-        readers.enrol_read(node, read.row, place);
+        readers.enrol(node, read.row);
     }
 }
 
