@@ -53,31 +53,24 @@ impl Readers {
         }
     }
 
-    /// So many of these reads, from the first on, are of rows that the node has read by its readers. It
-    /// takes one step for each reader of the node. Where the reads come in the order in which the node's
-    /// expression names their rows, those that are left out are of rows that the node has not read.
+    /// So many of these reads, from the first on, are of the rows of the node's readers in order, and the
+    /// node has read them. It takes one look for each.
     pub fn count_read(&self, node: u32, reads: &[Read]) -> usize
         ensures within { result ≤ length reads.now }
         ensures read { (k : ℕ) (read : ReadValue) → k < result → slice_get reads.now k ≡ Some read → IsReadIn self.now node read.row }
     {
-        let own = self.own_readers(node);
-        let mut count = 0;
-        for reader in own {
-            if is_next(*reader, reads, count) {
-                count += 1;
-            }
+        match self.own_readers(node) {
+            Some(own) => count_in_order(own, reads),
+            None => 0,
         }
-        count
     }
 
     /// The readers of a node, in order.
-    fn own_readers(&self, node: u32) -> &[Reader]
-        ensures { (k : ℕ) (reader : ReaderValue) → slice_get result.now k ≡ Some reader → IsOwnReader self.now node reader }
+    fn own_readers(&self, node: u32) -> Option<&[Reader]>
+        ensures { IfSome result (λ own. (k : ℕ) (reader : ReaderValue) → slice_get own.now k ≡ Some reader → IsOwnReader self.now node reader) }
     {
-        match self.spans.at(node as usize) {
-            Some(span) => part(self.list.as_slice(), span.from, span.to),
-            None => &[],
-        }
+        let span = self.spans.at(node as usize)?;
+        self.list.as_slice().get(span.from..span.to)
     }
 
     /// Makes the flags say which rows the bodies record, and nothing else.
@@ -156,23 +149,21 @@ fn has_read(reader: Reader, row: u32) -> bool
     reader.row == row && reader.enrolled
 }
 
-/// The items from one place on and below another, or none where there are not so many.
-fn part(list: &[Reader], from: usize, to: usize) -> &[Reader]
-    ensures { (k : ℕ) (reader : ReaderValue) → slice_get result.now k ≡ Some reader →
-        (from + k < to) × (slice_get list.now (from + k) ≡ Some reader) }
+/// So many of these reads, from the first on, are of the rows of these readers in order, which have
+/// read them.
+fn count_in_order(own: &[Reader], reads: &[Read]) -> usize
+    ensures within { result ≤ length reads.now }
+    ensures short { result ≤ length own.now }
+    ensures read { (k : ℕ) (reader : ReaderValue) (read : ReadValue) → k < result → slice_get own.now k ≡ Some reader →
+        slice_get reads.now k ≡ Some read → (reader.row ≡ read.row) × (reader.enrolled ≡ true) }
 {
-    list.get(from..to).unwrap_or(&[])
-}
-
-/// Whether the reader is of the row of the read at this place, and has read it.
-fn is_next(reader: Reader, reads: &[Read], place: usize) -> bool
-    ensures { result ≡ true → (reader.enrolled ≡ true) × (place < length reads.now)
-        × ((read : ReadValue) → slice_get reads.now place ≡ Some read → reader.row ≡ read.row) }
-{
-    match reads.get(place) {
-        Some(read) => has_read(reader, read.row),
-        None => false,
+    let most = own.len().min(reads.len());
+    for place in 0..most {
+        if !has_read(own[place], reads[place].row) {
+            return place;
+        }
     }
+    most
 }
 
 /// Whether a row stands among the reads.

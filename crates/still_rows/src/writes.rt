@@ -110,8 +110,8 @@ pub fn record_run(
     ensures { (row : OpenedValue) → slice_get rows.old frame.node ≡ Some row →
         IsRunRecorded rows.old rows.new readers.old readers.new frame code version reads.now.list row }
 {
-    let cause = cause_of(rows, row_at(rows, frame.node), frame);
     enrol_all(readers, frame.node, reads.as_slice());
+    let cause = cause_of(rows, row_at(rows, frame.node), frame);
     put(
         rows,
         frame.node,
