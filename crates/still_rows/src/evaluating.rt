@@ -60,11 +60,32 @@ impl Outcome {
 }
 
 /// The value, where each row that it takes is clean. `reads` then has these rows behind what it had,
-/// each once. One with no parts is looked at in place, without a further call.
+/// each once. It is compiled into its callers, so that an expression that has no further parts takes no
+/// call.
+#[tactic(auto, using(crate::proofs::EvaluatingLemmas::fits_read, crate::proofs::EvaluatingLemmas::fits_binary, crate::proofs::EvaluatingLemmas::fits_if))]
+#[inline(always)]
+pub(crate) fn evaluate(expr: &Expr, rows: &[Opened], reads: &mut Reads) -> Result<Code, Missing>
+    requires room { length (rows_in expr.now) ≤ reads.old.spare }
+    requires are_packed { ArePacked rows.now }
+    requires fresh { IsFresh rows.now reads.old.list }
+    ensures fresh { IsFresh rows.now reads.new.list }
+    ensures room { room_of reads.new ≡ room_of reads.old }
+    ensures spare { reads.old.spare ≤ reads.new.spare + length (rows_in expr.now) }
+    ensures value { IsOutcome expr.now rows.now reads.old.list reads.new.list result }
+{
+    match expr {
+        Expr::Lit(code) => Ok(*code),
+        Expr::Read(row) => read_row(rows, *row, reads),
+        Expr::Binary(op, left, right) => both(*op, left.get(), right.get(), rows, reads),
+        Expr::If(test, first, second) => taken(test.get(), first.get(), second.get(), rows, reads),
+    }
+}
+
+/// The same of a part of an expression. One with no parts is looked at in place.
 #[tactic(auto, using(crate::proofs::EvaluatingLemmas::fits_read, crate::proofs::EvaluatingLemmas::fits_binary, crate::proofs::EvaluatingLemmas::fits_if))]
 #[cycle(parts)]
 #[inline(always)]
-pub(crate) fn evaluate(expr: &Expr, rows: &[Opened], reads: &mut Reads) -> Result<Code, Missing>
+fn operand(expr: &Expr, rows: &[Opened], reads: &mut Reads) -> Result<Code, Missing>
     requires room { length (rows_in expr.now) ≤ reads.old.spare }
     requires are_packed { ArePacked rows.now }
     requires fresh { IsFresh rows.now reads.old.list }
@@ -118,8 +139,8 @@ fn both(
     ensures spare { reads.old.spare ≤ reads.new.spare + length (rows_in (Expr.Binary op left.now right.now)) }
     ensures value { IsOutcome (Expr.Binary op left.now right.now) rows.now reads.old.list reads.new.list result }
 {
-    let left = evaluate(left, rows, reads)?;
-    let right = evaluate(right, rows, reads)?;
+    let left = operand(left, rows, reads)?;
+    let right = operand(right, rows, reads)?;
     Ok(op.combine(left, right))
 }
 
@@ -162,11 +183,11 @@ fn taken(
     ensures spare { reads.old.spare ≤ reads.new.spare + length (rows_in (Expr.If test.now first.now second.now)) }
     ensures value { IsOutcome (Expr.If test.now first.now second.now) rows.now reads.old.list reads.new.list result }
 {
-    let test = evaluate(test, rows, reads)?;
+    let test = operand(test, rows, reads)?;
     if test.truth() {
-        evaluate(first, rows, reads)
+        operand(first, rows, reads)
     } else {
-        evaluate(second, rows, reads)
+        operand(second, rows, reads)
     }
 }
 
