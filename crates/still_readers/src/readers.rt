@@ -5,7 +5,7 @@ ghost use Rattle.sources.specs.Bodies.{rows_read};
 ghost use Rattle.sources.specs.Rows.{IsGood};
 ghost use Rattle.sources.specs.declared.body.Read.{Read as ReadValue};
 ghost use Rattle.still_readers.specs.declared.readers.Reader.{Reader as ReaderValue};
-ghost use Rattle.still_readers.specs.Readers.{stands_in, has_recorded, IsReadersOf, IsEnrolled, HasRead, IsEnrolledAt, IsReflagged, IsPlaceIn, IsNoneIn, IsOwnReader, IsReadIn, IsExact};
+ghost use Rattle.still_readers.specs.Readers.{stands_in, reads_recorded, IsReadersOf, IsEnrolled, HasRead, IsEnrolledAt, IsReflagged, IsPlaceIn, IsNoneIn, IsOwnReader, IsReadIn, IsExact};
 
 use sources::{Opened, Read};
 use values::Sequence;
@@ -80,22 +80,21 @@ impl Readers {
         ensures of_plan { (nodes : List NodeValue) → IsReadersOf nodes self.old → IsReadersOf nodes self.new }
         ensures enrolled { (nodes : List NodeValue) → IsReadersOf nodes self.old → IsGood nodes rows.now → IsEnrolled nodes rows.now self.new }
     {
+        let mut node = 0;
+        let mut reads = recorded_reads(rows, node);
         for place in 0..self.list.len() {
-            let enrolled = self.records(rows, place);
-            self.flag(place, enrolled);
+            let reader = self.reader(place);
+            reads = next_reads(rows, node, reads, reader.node);
+            node = reader.node;
+            self.flag(place, is_recorded(reads, reader.row));
         }
     }
 
-    /// Whether the body of the reader's node records its row.
-    fn records(&self, rows: &[Opened], place: usize) -> bool
+    fn reader(&self, place: usize) -> Reader
         requires { place < length self.now.list }
-        ensures { (reader : ReaderValue) → slice_get self.now.list place ≡ Some reader → result ≡ has_recorded rows.now reader.node reader.row }
+        ensures { slice_get self.now.list place ≡ Some result }
     {
-        let reader = self.list.as_slice()[place];
-        match rows.get(reader.node as usize) {
-            Some(row) => is_recorded(row.body.reads.as_slice(), reader.row),
-            None => false,
-        }
+        self.list.as_slice()[place]
     }
 
     fn flag(&mut self, place: usize, enrolled: bool)
@@ -140,6 +139,27 @@ impl Readers {
             None => false,
         }
     }
+}
+
+/// The reads that the body of a node records.
+fn recorded_reads(rows: &[Opened], node: u32) -> &[Read]
+    ensures { result.now ≡ reads_recorded (slice_get rows.now node) }
+{
+    match rows.get(node as usize) {
+        Some(row) => row.body.reads.as_slice(),
+        None => &[],
+    }
+}
+
+/// The same, where those of a node are at hand. Readers of one node stand together.
+fn next_reads<'a>(rows: &'a [Opened], at: u32, reads: &'a [Read], node: u32) -> &'a [Read]
+    requires { reads.now ≡ reads_recorded (slice_get rows.now at) }
+    ensures { result.now ≡ reads_recorded (slice_get rows.now node) }
+{
+    if node == at {
+        return reads;
+    }
+    recorded_reads(rows, node)
 }
 
 /// Whether the reader is of this row, and has read it.

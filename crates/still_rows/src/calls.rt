@@ -30,7 +30,9 @@ pub struct Work {
     pub(crate) marking: Marking,
 }
 
-/// Brings a row up to date where it is not clean. Effects run by other calls.
+/// Brings a row up to date where it is not clean. Effects run by other calls. It is compiled into its
+/// callers, so that a clean row takes no call.
+#[inline(always)]
 pub fn refresh(
     nodes: &[PlanNode],
     rows: &mut [Opened],

@@ -147,13 +147,7 @@ fn both(
 /// The same of a test and two branches.
 #[cycle(parts)]
 #[inline(never)]
-fn choice(
-    test: &Expr,
-    first: &Expr,
-    second: &Expr,
-    rows: &[Opened],
-    reads: &mut Reads,
-) -> Outcome
+fn choice(test: &Expr, first: &Expr, second: &Expr, rows: &[Opened], reads: &mut Reads) -> Outcome
     requires room { length (rows_in (Expr.If test.now first.now second.now)) ≤ reads.old.spare }
     requires are_packed { ArePacked rows.now }
     requires fresh { IsFresh rows.now reads.old.list }
