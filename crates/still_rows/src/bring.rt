@@ -39,6 +39,7 @@ pub struct Gone {
 }
 
 /// How the work on a frame ends for now, where the order of work leads no further without a write.
+#[inline(always)]
 fn end(
     nodes: &[PlanNode],
     rows: &[Opened],

@@ -71,6 +71,7 @@ fn changed(rows: &[Opened], recorded: &[Read], at: usize) -> Cause
 }
 
 /// The node has read these rows.
+#[inline]
 fn enrol_all(readers: &mut Readers, node: u32, reads: &[Read])
     ensures { IsEnrolledFor node reads.now (length reads.now) readers.old readers.new }
 {
