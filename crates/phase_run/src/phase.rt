@@ -1,13 +1,11 @@
 //! One phase: its operations, its answers and its lines.
-ghost use Rattle.std.specs.Prelude.{◌≡◌, ◌≢◌, ◌≤◌, ◌<◌, ◌+◌, ◌-◌, ◌^◌, ◌∷◌, ◌++◌, [], ℕ, suc, true, false, All, List, length, map, take, drop, OnOk, if◌then◌else◌};
+ghost use Rattle.std.specs.Prelude.{◌≡◌, ◌≤◌, ◌<◌, ◌+◌, ◌^◌, ◌∷◌, ◌++◌, [], suc, All, List, length, drop, OnOk, if◌then◌else◌};
 ghost use Rattle.script_items.specs.KeptFor.{NamesMembers};
 ghost use Rattle.script_items.specs.Members.{members_of};
 ghost use Rattle.component_items.specs.Kept.{IsKept};
 ghost use Rattle.plain_evaluation.specs.Fits.{Fits};
 ghost use Rattle.plan_meaning.specs.Owners.{plan_owners};
-ghost use Rattle.run_history.specs.Going.{just_opened};
 ghost use Rattle.run_history.specs.History.{PastFits};
-ghost use Rattle.run_meaning.specs.Lane.{Done};
 ghost use Rattle.run_meaning.specs.Phase.{Phase};
 ghost use Rattle.run_meaning.specs.Report.{answer_lines, journal_lines};
 ghost use Rattle.run_meaning.specs.Run.{answers_of_lanes};
@@ -15,8 +13,7 @@ ghost use Rattle.phase_graph.specs.Graph.{ticks_of};
 ghost use Rattle.lane_run.specs.Lanes.{lanes_at};
 ghost use Rattle.lane_run.specs.Today.{LanesRun};
 ghost use Rattle.phase_run.specs.Phases.{IsMade};
-ghost use Rattle.still_graph.specs.Still.{opened_in, IsSettledAfter, IsOpenAt, HasEnded};
-ghost use Rattle.still_graph.specs.declared.still.Stage.TheVariants as stage;
+ghost use Rattle.still_graph.specs.Still.{opened_in, IsSettledAfter};
 
 use lane_run::{edit_room, run_lanes};
 use outside::Gate;

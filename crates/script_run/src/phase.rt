@@ -1,26 +1,13 @@
 //! One phase of a run.
-ghost use Rattle.std.specs.Prelude.{◌≡◌, ◌≢◌, ◌≤◌, ◌<◌, ◌+◌, ◌-◌, ◌^◌, ◌∷◌, ◌++◌, [], ℕ, suc, true, false, All, List, length, map, take, drop, OnOk, if◌then◌else◌};
+ghost use Rattle.std.specs.Prelude.{◌≡◌, ◌≤◌, ◌<◌, ◌+◌, ◌^◌, [], ℕ, length, take, OnOk};
 ghost use Rattle.std.specs.Bool.{OnTrue};
 ghost use Rattle.script_items.specs.KeptFor.{AllOps, NamesMembers};
 ghost use Rattle.script_items.specs.Members.{members_of};
 ghost use Rattle.component_items.specs.Kept.{IsKept};
-ghost use Rattle.plain_evaluation.specs.Fits.{Fits};
-ghost use Rattle.plan_meaning.specs.Owners.{plan_owners};
-ghost use Rattle.run_history.specs.Going.{just_opened};
-ghost use Rattle.run_history.specs.History.{PastFits};
-ghost use Rattle.run_meaning.specs.Lane.{Done};
-ghost use Rattle.run_meaning.specs.Phase.{Phase};
-ghost use Rattle.run_meaning.specs.Report.{answer_lines, journal_lines};
-ghost use Rattle.run_meaning.specs.Run.{answers_of_lanes};
 ghost use Rattle.load_meaning.specs.Polls.{enough_rounds};
 ghost use Rattle.phase_graph.specs.Graph.{ticks_of};
-ghost use Rattle.lane_run.specs.Lanes.{lanes_at};
-ghost use Rattle.lane_run.specs.Today.{LanesRun};
-ghost use Rattle.phase_run.specs.Phases.{IsMade};
 ghost use Rattle.script_run.specs.Ran.{GoesOn, LoaderCounts};
-ghost use Rattle.still_graph.specs.Still.{opened_in, IsSettledAfter, IsOpenAt, HasEnded};
 ghost use Rattle.script_run.specs.Today.{RunsToday};
-ghost use Rattle.still_graph.specs.declared.still.Stage.TheVariants as stage;
 
 use crate::run::Ran;
 use outside::{Gate, Loader};
