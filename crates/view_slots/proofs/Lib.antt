@@ -1,0 +1,2 @@
+pub mod HomeParts
+pub mod SlotLemmas

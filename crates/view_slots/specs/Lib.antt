@@ -1,0 +1,4 @@
+pub mod Home
+pub mod Seen
+pub mod Plain
+pub mod Shows
