@@ -1,2 +1,4 @@
 pub mod HomeParts
 pub mod SlotLemmas
+pub mod PlainLemmas
+pub mod WalkLemmas
