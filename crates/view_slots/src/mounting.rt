@@ -47,7 +47,10 @@ impl Mounting<'_> {
             Item::Store { .. } => {}
             Item::Cleanup { .. } => {}
             Item::Area {
-                id, owner, items, ..
+                id,
+                owner,
+                items,
+                ..
             } => {
                 if self.sight.is_live(*owner) {
                     self.area(*id, slots);

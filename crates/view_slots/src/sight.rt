@@ -1,5 +1,5 @@
 //! What a view sees of a settled graph.
-ghost use Rattle.std.specs.Prelude.{◌≡◌};
+ghost use Rattle.std.specs.Prelude.{◌≡◌, [], if◌then◌else◌};
 ghost use Rattle.std.specs.Option.{option_map};
 ghost use Rattle.values.specs.Packing.{unpacked};
 ghost use Rattle.plain_evaluation.specs.Place.{place_at};
@@ -63,11 +63,15 @@ impl<'a> Sight<'a> {
         }
     }
 
-    /// The items of the component.
-    pub(crate) fn items(&self) -> &[Item]
-        ensures { result.now ≡ self.now.component.items }
+    /// The items of the component, or none where its top is dead.
+    pub(crate) fn top_items(&self) -> &[Item]
+        ensures { result.now ≡ (if (seen_by self.now).view.live 0 then self.now.component.items else []) }
     {
-        self.component.items()
+        if self.held.is_live(0) {
+            self.component.items()
+        } else {
+            &[]
+        }
     }
 
     /// Whether the owner is live.

@@ -44,25 +44,24 @@ impl Slots {
     pub fn remount_top(&mut self, sight: &Sight, near: &mut Near)
         ensures { self.new ≡ remounted (seen_by sight.now) (top_parts (seen_by sight.now).view sight.now.component.items) None self.old }
     {
-        turn_all(self.slots.as_mut_slice());
-        if sight.is_live(0) {
-            let mounting = Mounting {
-                sight,
-                key: None,
-                base: self.base,
-            };
-            mounting.items(sight.items(), self.slots.as_mut_slice(), near);
-        }
+        self.remount(sight, sight.top_items(), None, near);
     }
 
     /// Mounts the row with this key of an `each` with these items again.
     pub fn remount_row(&mut self, sight: &Sight, items: &[Item], key: Code, near: &mut Near)
         ensures { self.new ≡ remounted (seen_by sight.now) (home_parts (seen_by sight.now).view items.now (Some key)) (Some key) self.old }
     {
+        self.remount(sight, items, Some(key), near);
+    }
+
+    /// Mounts these items again, in the row with the key or in none.
+    fn remount(&mut self, sight: &Sight, items: &[Item], key: Option<Code>, near: &mut Near)
+        ensures { self.new ≡ remounted (seen_by sight.now) (home_parts (seen_by sight.now).view items.now key) key self.old }
+    {
         turn_all(self.slots.as_mut_slice());
         let mounting = Mounting {
             sight,
-            key: Some(key),
+            key,
             base: self.base,
         };
         mounting.items(items, self.slots.as_mut_slice(), near);
