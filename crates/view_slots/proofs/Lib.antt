@@ -2,3 +2,4 @@ pub mod HomeParts
 pub mod SlotLemmas
 pub mod PlainLemmas
 pub mod WalkLemmas
+pub mod Tests
