@@ -3,3 +3,4 @@ pub mod SlotLemmas
 pub mod PlainLemmas
 pub mod WalkLemmas
 pub mod Tests
+pub mod Rowless
