@@ -4,3 +4,5 @@ pub mod PlainLemmas
 pub mod WalkLemmas
 pub mod Tests
 pub mod Rowless
+pub mod Meaning
+pub mod RowHomes

@@ -20,12 +20,18 @@ use Rattle.view_slots.specs.Home.{rowless}
 use Rattle.view_slots.proofs.HomeParts.{parts-joined}
 use Rattle.view_slots.proofs.Tests.{is_elsewhere, is_repeated, or_false, none_leading, none_either, none-append, items_placed}
 
+-- the parts in a row of a page and of a home
+pub record InRow (parts less : List Part) : Type 0 where
+  pub same : parts ≡ less
+  pub single : list_any is_repeated less ≡ false
+
+-- a test that nothing in a row passes
+pub record IsOuter (test : Part → Bool) : Type 0 where
+  pub rows : (id : ℕ) (k : Code) → test (row id k) ≡ false
+  pub others : (k : Code) (part : Part) → test part ≡ true → (is_elsewhere (Some k) part || is_repeated part) ≡ true
+
 module _ (view : View) where
   -- ---- in a row: there is no `each`, so what a page has there is what the home has
-
-  pub record InRow (parts less : List Part) : Type 0 where
-    pub same : parts ≡ less
-    pub single : list_any is_repeated less ≡ false
 
   abbrev Single : Item → Type 0
   Single item = (s : Standing) (key : Option Code) → s.repeated ≡ true → item_stands item s ≡ true → InRow (item_parts view item key) (item_parts (rowless view) item key)
@@ -122,11 +128,6 @@ module _ (view : View) where
       }
 
   -- ---- outside of all rows: what a page has there the home has
-
-  -- a test that nothing in a row passes
-  pub record IsOuter (test : Part → Bool) : Type 0 where
-    pub rows : (id : ℕ) (k : Code) → test (row id k) ≡ false
-    pub others : (k : Code) (part : Part) → test part ≡ true → (is_elsewhere (Some k) part || is_repeated part) ≡ true
 
   module _ (test : Part → Bool) (outer : IsOuter test) where
     abbrev Split : Item → Type 0

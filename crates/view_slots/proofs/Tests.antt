@@ -66,7 +66,7 @@ is_repeated (row id k) = false
 pub or_false : (a b : Bool) → a ≡ false → b ≡ false → (a || b) ≡ false
 or_false a b h g = (λ i. h i || b) ∙ g
 
-contra : (a b : Bool) → (a ≡ true → b ≡ true) → b ≡ false → a ≡ false
+pub contra : (a b : Bool) → (a ≡ true → b ≡ true) → b ≡ false → a ≡ false
 contra true b leads none = let e : true ≡ false = sym (leads refl) ∙ none in absurd cc
 contra false b leads none = refl
 
@@ -96,7 +96,7 @@ none_rows test part (k ∷ keys) every = none-append test (part k) (flat_map par
 
 -- ---- parts have the ids of their items
 
-abbrev among : ℕ → List ℕ → Bool
+abbrev pub among : ℕ → List ℕ → Bool
 among id ids = list_any (λ x. x == id) ids
 
 module _ (view : View) (id : ℕ) where
@@ -115,7 +115,7 @@ module _ (view : View) (id : ℕ) where
       let both = or_none (among id (item_ids k.0)) (among id (concat (map item_ids (known_items known)))) (sym (list_any-append (λ x. x == id) (item_ids k.0) (concat (map item_ids (known_items known)))) ∙ out) in
       none-append (has_id id) (item_parts view k.0 key) (parts_joined (map (item_parts view) (known_items known)) key) (k.1 key both.0) (without_all known key both.1)
 
-  without_attrs : (attrs : List Attr) (key : Option Code) → among id (flat_map attr_ids attrs) ≡ false → list_any (has_id id) (map (attr_part key) attrs) ≡ false
+  pub without_attrs : (attrs : List Attr) (key : Option Code) → among id (flat_map attr_ids attrs) ≡ false → list_any (has_id id) (map (attr_part key) attrs) ≡ false
   without_attrs [] key out = refl
   without_attrs (attr.Bare name ∷ attrs) key out = without_attrs attrs key out
   without_attrs (attr.Fixed name text ∷ attrs) key out = without_attrs attrs key out
@@ -123,7 +123,7 @@ module _ (view : View) (id : ℕ) where
       let both = or_none (own == id) (among id (flat_map attr_ids attrs)) out in
       or_false ((own == id) || false) (list_any (has_id id) (map (attr_part key) attrs)) (or_false (own == id) false both.0 refl) (without_attrs attrs key both.1)
 
-  without_end : (tag : ℕ) (closed : Bool) → list_any (has_id id) (ending tag closed) ≡ false
+  pub without_end : (tag : ℕ) (closed : Bool) → list_any (has_id id) (ending tag closed) ≡ false
   without_end tag true = refl
   without_end tag false = refl
 

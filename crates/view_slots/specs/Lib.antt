@@ -1,5 +1,5 @@
 pub mod Home
 pub mod Seen
 pub mod Plain
-pub mod Shows
 pub mod Eaches
+pub mod Shows

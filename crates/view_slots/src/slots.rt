@@ -1,8 +1,11 @@
 //! The slots of a home.
 ghost use Rattle.std.specs.Prelude.{◌≡◌, IfOk, None, Some};
 ghost use Rattle.std.specs.Option.{option_map};
+ghost use Rattle.component_items.specs.Kept.{IsKept};
+ghost use Rattle.view_meaning.specs.Mounted.{Mounted, mounted_again};
 ghost use Rattle.view_slots.specs.Home.{blank_home, home_parts, top_parts, remounted, home_undone, face_at};
 ghost use Rattle.view_slots.specs.Seen.{seen_by};
+ghost use Rattle.view_slots.specs.Shows.{Shows};
 
 use crate::mounting::{Mounting, slot_of};
 use crate::near::Near;
@@ -42,7 +45,8 @@ impl Slots {
     /// Mounts the page outside of all rows again: what is mounted of it now is what the component shows, as it was
     /// mounted before or anew. Where the top is dead nothing is.
     pub fn remount_top(&mut self, sight: &Sight, near: &mut Near)
-        ensures { self.new ≡ remounted (seen_by sight.now) (top_parts (seen_by sight.now).view sight.now.component.items) None self.old }
+        ensures remounted { self.new ≡ remounted (seen_by sight.now) (top_parts (seen_by sight.now).view sight.now.component.items) None self.old }
+        ensures shows { (old : Mounted) → IsKept sight.now.component → Shows old None self.old → Shows (mounted_again sight.now.component.items (seen_by sight.now) old) None self.new }
     {
         self.remount(sight, sight.top_items(), None, near);
     }
