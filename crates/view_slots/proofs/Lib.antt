@@ -6,3 +6,4 @@ pub mod Tests
 pub mod Rowless
 pub mod Meaning
 pub mod RowHomes
+pub mod RowMeaning

@@ -88,19 +88,19 @@ concat-map : (items : List Item) → concat (map item_ids items) ≡ ids_in item
 concat-map [] = refl
 concat-map (item ∷ items) = ap (λ more. item_ids item ++ more) (concat-map items)
 
-ids-Area : (id name owner : ℕ) (items : List Item) → item_ids (Area id name owner items) ≡ id ∷ ids_in items
+pub ids-Area : (id name owner : ℕ) (items : List Item) → item_ids (Area id name owner items) ≡ id ∷ ids_in items
 unfolding item_ids
 ids-Area id name owner items = fold-Area ids_step id name owner items ∙ ap (λ more. id ∷ more) (concat-map items)
 
-ids-If : (id : ℕ) (cond : Expr) (items : List Item) → item_ids (If id cond items) ≡ id ∷ ids_in items
+pub ids-If : (id : ℕ) (cond : Expr) (items : List Item) → item_ids (If id cond items) ≡ id ∷ ids_in items
 unfolding item_ids
 ids-If id cond items = fold-If ids_step id cond items ∙ ap (λ more. id ∷ more) (concat-map items)
 
-ids-Each : (id store : ℕ) (items : List Item) → item_ids (Each id store items) ≡ id ∷ ids_in items
+pub ids-Each : (id store : ℕ) (items : List Item) → item_ids (Each id store items) ≡ id ∷ ids_in items
 unfolding item_ids
 ids-Each id store items = fold-Each ids_step id store items ∙ ap (λ more. id ∷ more) (concat-map items)
 
-ids-Element : (tag : ℕ) (closed : Bool) (attrs : List Attr) (items : List Item) → item_ids (Element tag closed attrs items) ≡ flat_map attr_ids attrs ++ ids_in items
+pub ids-Element : (tag : ℕ) (closed : Bool) (attrs : List Attr) (items : List Item) → item_ids (Element tag closed attrs items) ≡ flat_map attr_ids attrs ++ ids_in items
 unfolding item_ids
 ids-Element tag closed attrs items = fold-Element ids_step tag closed attrs items ∙ ap (λ more. flat_map attr_ids attrs ++ more) (concat-map items)
 
@@ -128,7 +128,7 @@ each_among e x items (in_element tag closed attrs inner more st) has = among_fir
 
 -- ---- where items stand
 
-all_stand : (s : Standing) (items : List Item) → stand_all s (map item_stands items) ≡ list_all (λ item. item_stands item s) items
+pub all_stand : (s : Standing) (items : List Item) → stand_all s (map item_stands items) ≡ list_all (λ item. item_stands item s) items
 all_stand s [] = refl
 all_stand s (item ∷ items) = ap (λ b. item_stands item s && b) (all_stand s items)
 
@@ -280,7 +280,7 @@ module _ (view : View) (e : EachOf) (key : Code) (test : Part → Bool) (id : �
   each_there : (id store : ℕ) (rest : List Part) → has_rows (each id store ∷ rest) id ≡ true
   each_there id store rest = either_first (id == id) (has_rows rest id) (grind arith)
 
-  has_row : (items : List Item) (s : Standing) → stand_all s (map item_stands items) ≡ true → AreApart (ids_in items) → StandsIn e items → HasRow items
+  pub has_row : (items : List Item) (s : Standing) → stand_all s (map item_stands items) ≡ true → AreApart (ids_in items) → StandsIn e items → HasRow items
   has_row items s stands apart (here more) =
       let both = and_cases (item_stands (Each e.id e.store e.items) s) (stand_all s (map item_stands more)) stands in
       let inner = (and_cases (may_have_each s) (stand_all (inside_each s) (map item_stands e.items)) (sym (stands-Each s e.id e.store e.items) ∙ both.0)).1 in
