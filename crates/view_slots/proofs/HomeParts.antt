@@ -1,5 +1,5 @@
 -- The parts of a home by the form of the item.
-use Rattle.std.proofs.Common.{◌≡◌, ℕ, Bool, if◌then◌else◌, List, [], ◌∷◌, ◌++◌, map, Option, refl, sym, ap, ◌∙◌}
+use Rattle.std.proofs.Common.{◌≡◌, ℕ, Bool, if◌then◌else◌, List, [], ◌∷◌, ◌++◌, map, Option, refl, ap, ◌∙◌}
 use Rattle.std.specs.List.{flat_map}
 use Rattle.values.specs.declared.code.Code.{Code}
 use Rattle.values.specs.declared.expr.Expr.{Expr}
@@ -10,7 +10,7 @@ use Rattle.component_items.specs.declared.component.Item.TheVariants.{Signal, Me
 use Rattle.component_items.proofs.FoldLemmas.{at-Signal, at-Memo, at-Effect, at-Resource, at-Cleanup, at-Load, at-Store, at-Area, at-If, at-Each, at-Element, at-Text, at-Shown}
 use Rattle.plain_evaluation.specs.Page.{View}
 use Rattle.plain_evaluation.specs.Place.{place_at}
-use Rattle.view_meaning.specs.Parts.{Part, plain, shows, begins, begun, area, branch, each, attr_part, parts_joined, ending, parts_step, item_parts, items_parts}
+use Rattle.view_meaning.specs.Parts.{plain, shows, begins, begun, area, branch, each, attr_part, parts_joined, ending, parts_step, item_parts, items_parts}
 use Rattle.view_slots.specs.Home.{rowless}
 
 module _ (view : View) where

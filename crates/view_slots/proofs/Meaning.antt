@@ -1,8 +1,8 @@
 -- A home that is mounted again shows the view that is made again.
-use Rattle.std.proofs.Common.{◌≡◌, ℕ, ◌+◌, ◌-◌, ◌≤◌, ◌==◌, ◌||◌, not, nat_le, if◌then◌else◌, Bool, true, false, List, [], ◌∷◌, ◌++◌, map, length, slice_get, Option, Some, None, refl, sym, ap, subst, ◌∙◌, arith}
+use Rattle.std.proofs.Common.{◌≡◌, ℕ, ◌+◌, ◌-◌, ◌≤◌, ◌==◌, ◌||◌, not, nat_le, if◌then◌else◌, Bool, true, false, List, [], map, slice_get, Option, Some, None, refl, sym, ap, ◌∙◌, arith}
 use Rattle.std.specs.List.{list_any}
 use Rattle.std.specs.Option.{option_map}
-use Rattle.std.proofs.lemmas.Bool.{leb-true, eqb-true}
+use Rattle.std.proofs.lemmas.Bool.{leb-true}
 use Rattle.std.proofs.lemmas.Option.{slice_get-map}
 use Rattle.values.specs.declared.code.Code.{Code}
 use Rattle.component_items.specs.declared.component.Component.{Component}
@@ -11,9 +11,9 @@ use Rattle.component_items.specs.Kept.{IsKept, standing_at_top}
 use Rattle.plain_evaluation.specs.Page.{View}
 use Rattle.plain_evaluation.specs.Place.{Place, same_key, same_place, place_at, outside}
 use Rattle.plain_evaluation.proofs.Places.{and_cases}
-use Rattle.view_meaning.specs.Mounted.{Seen, Cell, Mounted, cell_again, mounted_again}
+use Rattle.view_meaning.specs.Mounted.{Seen, Mounted, cell_again, mounted_again}
 use Rattle.view_meaning.specs.Parts.{Part, plain, shows, begins, bare, fixed, valued, begun, ends, area, branch, each, row, items_parts, parts_in, has_cell}
-use Rattle.view_slots.specs.Home.{Sides, Home, rowless, home_parts, top_parts, opens_at, has_open, repeats, has_rows, turned, sides_with, by_id, sides_at, remounted}
+use Rattle.view_slots.specs.Home.{Sides, Home, rowless, home_parts, top_parts, opens_at, has_open, repeats, has_rows, turned, undone, sides_with, by_id, sides_at, remounted, home_undone}
 use Rattle.view_slots.specs.Shows.{Shows}
 use Rattle.view_slots.proofs.SlotLemmas.{by_id-get}
 use Rattle.view_slots.proofs.Tests.{is_cell, has_cell-any, is_elsewhere, is_repeated}
@@ -66,6 +66,27 @@ module _ (seen : Seen) (parts : List Part) (key : Option Code) (home : Home) whe
     repeats = λ id s outer is. (let m = mapped (anew id) (sides_at home id) s (sym (sides-remounted id) ∙ is) in
         ap (λ x. x.now.has_rows) (sym m.2) ∙ kept_if (has_rows parts id) ∙ sym (agrees.repeats id m.0 outer m.1));
   }
+
+-- what a home had before it was mounted again
+sides-undone : (home : Home) (id : ℕ) → sides_at (home_undone home) id ≡ option_map undone (sides_at home id)
+sides-undone home id = at (nat_le home.base id)
+  where
+    at : (b : Bool) → (if b then slice_get (map undone home.sides) (id - home.base) else None) ≡ option_map undone (if b then slice_get home.sides (id - home.base) else None)
+    at true = slice_get-map undone home.sides (id - home.base)
+    at false = refl
+
+pub undone_shows : (seen : Seen) (parts : List Part) (key : Option Code) (home : Home) (mounted : Mounted) (of : Option Code) → Shows mounted of home → Shows mounted of (home_undone (remounted seen parts key home))
+undone_shows seen parts key home mounted of shown = record {
+  cells = λ id s is. (let m = back id s is in ap (λ (x : Sides). x.now.cell) (sym m.2) ∙ shown.cells id m.0 m.1);
+  opens = λ id s is. (let m = back id s is in ap (λ (x : Sides). x.now.is_open) (sym m.2) ∙ shown.opens id m.0 m.1);
+  repeats = λ id s outer is. (let m = back id s is in ap (λ (x : Sides). x.now.has_rows) (sym m.2) ∙ shown.repeats id m.0 outer m.1);
+}
+  where
+    back : (id : ℕ) (s : Sides) → sides_at (home_undone (remounted seen parts key home)) id ≡ Some s → (was : Sides) × (sides_at home id ≡ Some was) × (undone (anew seen parts key home id was) ≡ s)
+    back id s is =
+        let one = mapped seen parts key home undone (sides_at (remounted seen parts key home) id) s (sym (sides-undone (remounted seen parts key home) id) ∙ is) in
+        let two = mapped seen parts key home (anew seen parts key home id) (sides_at home id) one.0 (sym (sides-remounted seen parts key home id) ∙ one.1) in
+        (two.0, two.1, ap undone two.2 ∙ one.2)
 
 -- ---- outside of all rows
 

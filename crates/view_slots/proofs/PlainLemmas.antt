@@ -1,5 +1,5 @@
 -- Slots as the code keeps them, mounted one by one.
-use Rattle.std.proofs.Common.{◌≡◌, ℕ, ◌+◌, ◌-◌, ◌<◌, inl, inr, nat_le, Bool, true, false, if◌then◌else◌, arith, Option, Some, None, List, replicate, [], ◌∷◌, length, get_or, map, slice_get, slice_set, refl, sym, ap, subst, ◌∙◌}
+use Rattle.std.proofs.Common.{◌≡◌, ℕ, ◌+◌, ◌-◌, ◌<◌, inl, inr, nat_le, Bool, true, false, if◌then◌else◌, arith, Option, Some, None, List, replicate, [], ◌∷◌, length, get_or, map, slice_get, slice_set, sym, ap, subst, ◌∙◌}
 use Rattle.std.specs.Bool.{OnTrue, OnFalse}
 use Rattle.std.specs.Option.{option_map, option_map_or}
 use Rattle.std.proofs.Math.Seq.{map-set_same}
@@ -10,7 +10,7 @@ use Rattle.plain_evaluation.specs.Place.{place_at}
 use Rattle.view_meaning.specs.Mounted.{Seen, Cell, cell_again}
 use Rattle.view_meaning.specs.Parts.{Part, shows, area, branch, each}
 use Rattle.view_slots.specs.declared.slot.Slot.{Slot}
-use Rattle.view_slots.specs.Home.{Sides, Home, blank_face, blank_sides, blank_home, turned, sides_celled, sides_opened, sides_repeated, mounted_with, remounted, IsOutside, sides_at, face_at}
+use Rattle.view_slots.specs.Home.{Home, blank_face, blank_sides, blank_home, turned, sides_celled, sides_opened, sides_repeated, mounted_with, remounted, IsOutside, sides_at, face_at}
 use Rattle.view_slots.specs.Plain.{face_meant, sides_of, all_sides, home_of}
 use Rattle.view_slots.proofs.SlotLemmas.{map-slice_set, map-replicate, mounted-none, shown-at, branch-at, area-at, each-at, shown-outside, branch-outside, area-outside, each-outside}
 

@@ -1,5 +1,5 @@
 -- What a page has in one row of an `each`.
-use Rattle.std.proofs.Common.{◌≡◌, ℕ, zero, suc, ◌+◌, ◌-◌, ◌<◌, ◌≤◌, ◌==◌, ◌||◌, ◌&&◌, not, if◌then◌else◌, Bool, true, false, List, [], ◌∷◌, ◌++◌, map, length, slice_get, Option, Some, None, refl, sym, ap, subst, ◌∙◌, arith}
+use Rattle.std.proofs.Common.{◌≡◌, ℕ, zero, suc, ◌+◌, ◌<◌, ◌≤◌, ◌==◌, ◌||◌, ◌&&◌, if◌then◌else◌, Bool, true, false, List, [], ◌∷◌, ◌++◌, map, Option, Some, None, refl, sym, ap, subst, ◌∙◌, arith}
 use Rattle.std.specs.List.{list_any, list_all, flat_map, concat, range_with_len}
 use Rattle.std.proofs.lemmas.Bool.{eqb-true}
 use Rattle.std.proofs.lemmas.List.Folds.{list_any-append}
@@ -13,14 +13,14 @@ use Rattle.component_items.specs.Ids.{attr_ids, ids_step, item_ids, ids_in}
 use Rattle.component_items.specs.Kept.{Standing, may_have_area, may_have_each, inside_area, inside_if, inside_each, inside_element, stand_all, stands_step, item_stands}
 use Rattle.component_items.proofs.FoldLemmas.{fold-Area, fold-If, fold-Each, fold-Element, at-Area, at-If, at-Each, at-Element}
 use Rattle.plain_evaluation.specs.Page.{View}
-use Rattle.plain_evaluation.specs.Place.{Place, place_at, of_row}
+use Rattle.plain_evaluation.specs.Place.{place_at}
 use Rattle.plain_evaluation.proofs.Places.{and_cases, or_none, same_code}
-use Rattle.view_meaning.specs.Parts.{Part, plain, shows, begins, bare, fixed, valued, begun, ends, area, branch, each, row, attr_part, parts_joined, ending, parts_step, item_parts, items_parts}
+use Rattle.view_meaning.specs.Parts.{Part, plain, shows, begins, bare, fixed, valued, begun, ends, area, branch, each, row, attr_part, ending, parts_step, item_parts, items_parts}
 use Rattle.view_slots.specs.Home.{rowless, repeats, has_rows}
 use Rattle.view_slots.specs.Eaches.{EachOf, StandsIn, here, later, in_area, in_if, in_element}
 use Rattle.view_slots.proofs.HomeParts.{parts-joined, parts-Area, parts-If, parts-Element, parts-Each}
-use Rattle.view_slots.proofs.Tests.{among, has_id, is_elsewhere, contra, or_false, none_leading, none-append, without_id, without_attrs, without_end, items_without_id, items_placed}
-use Rattle.view_slots.proofs.Rowless.{InRow, items_single}
+use Rattle.view_slots.proofs.Tests.{among, has_id, is_elsewhere, contra, or_false, none_leading, without_id, without_attrs, without_end, items_without_id, items_placed}
+use Rattle.view_slots.proofs.Rowless.{items_single}
 
 -- ---- lists with no id twice
 

@@ -1,7 +1,7 @@
 -- A row that is mounted again shows the view that is made again.
-use Rattle.std.proofs.Common.{◌≡◌, ℕ, suc, ◌+◌, ◌-◌, ◌<◌, ◌≤◌, ◌==◌, ◌||◌, ◌&&◌, not, nat_le, if◌then◌else◌, Bool, true, false, List, [], ◌∷◌, ◌++◌, map, length, slice_get, Option, Some, None, refl, sym, ap, subst, ◌∙◌, arith}
+use Rattle.std.proofs.Common.{◌≡◌, ℕ, suc, ◌+◌, ◌-◌, ◌<◌, ◌≤◌, ◌==◌, ◌||◌, ◌&&◌, not, nat_le, if◌then◌else◌, Bool, true, false, List, [], ◌∷◌, ◌++◌, length, slice_get, Option, Some, None, refl, sym, ap, subst, ◌∙◌, arith}
 use Rattle.std.specs.List.{list_any, flat_map, range_with_len}
-use Rattle.std.proofs.lemmas.Bool.{leb-true, eqb-true}
+use Rattle.std.proofs.lemmas.Bool.{leb-true}
 use Rattle.std.proofs.lemmas.Option.{slice_get_within}
 use Rattle.values.specs.declared.code.Code.{Code}
 use Rattle.values.specs.Evaluation.{is_same}
@@ -9,12 +9,12 @@ use Rattle.component_items.specs.declared.component.Component.{Component}
 use Rattle.component_items.specs.declared.component.Item.{Item}
 use Rattle.component_items.specs.declared.component.Item.TheVariants.{Area, If, Each, Element}
 use Rattle.component_items.specs.Ids.{attr_ids, item_ids, ids_in}
-use Rattle.component_items.specs.Kept.{IsKept, stand_all, item_stands, standing_at_top}
+use Rattle.component_items.specs.Kept.{IsKept, standing_at_top}
 use Rattle.plain_evaluation.specs.Page.{View}
-use Rattle.plain_evaluation.specs.Place.{Place, same_key, same_place, place_at, of_row}
-use Rattle.plain_evaluation.proofs.Places.{and_cases, same_code, code_itself}
+use Rattle.plain_evaluation.specs.Place.{Place, same_key, same_place, of_row}
+use Rattle.plain_evaluation.proofs.Places.{and_cases, same_code}
 use Rattle.view_meaning.specs.Mounted.{Seen, Mounted, mounted_again}
-use Rattle.view_meaning.specs.Parts.{Part, plain, shows, begins, bare, fixed, valued, begun, ends, area, branch, each, row, items_parts, parts_in, has_cell}
+use Rattle.view_meaning.specs.Parts.{Part, plain, shows, begins, bare, fixed, valued, begun, ends, area, branch, each, row, items_parts, parts_in}
 use Rattle.view_slots.specs.Home.{Sides, Home, rowless, home_parts, top_parts, opens_at, has_open, has_rows, sides_at, remounted}
 use Rattle.view_slots.specs.Eaches.{EachOf, StandsIn, here, later, in_area, in_if, in_element}
 use Rattle.view_slots.specs.Shows.{Shows, IsRowHome, IsMountedRow}

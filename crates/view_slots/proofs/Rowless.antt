@@ -1,5 +1,5 @@
 -- What a home has of the parts of a page.
-use Rattle.std.proofs.Common.{◌≡◌, ℕ, ◌==◌, ◌||◌, ◌&&◌, not, if◌then◌else◌, Bool, true, false, List, [], ◌∷◌, ◌++◌, map, Option, Some, None, refl, sym, ap, subst, ◌∙◌}
+use Rattle.std.proofs.Common.{◌≡◌, ℕ, ◌||◌, ◌&&◌, if◌then◌else◌, Bool, true, false, List, [], ◌∷◌, ◌++◌, map, Option, Some, None, refl, sym, ap, subst, ◌∙◌}
 use Rattle.std.specs.List.{list_any, list_all, flat_map}
 use Rattle.std.proofs.lemmas.List.Folds.{list_any-append}
 use Rattle.values.specs.declared.code.Code.{Code}
@@ -13,9 +13,9 @@ use Rattle.component_items.specs.declared.component.Item.TheViews.{roll-Item}
 use Rattle.component_items.specs.declared.component.Item.TheFolds.{fold-roll-Item, map-Item, ind-Item}
 use Rattle.component_items.specs.Kept.{Standing, may_have_area, may_have_each, inside_area, inside_if, inside_each, inside_element, stand_all, stands_step, item_stands}
 use Rattle.plain_evaluation.specs.Page.{View}
-use Rattle.plain_evaluation.specs.Place.{Place, same_key, place_at}
+use Rattle.plain_evaluation.specs.Place.{place_at}
 use Rattle.plain_evaluation.proofs.Places.{and_cases, not_true}
-use Rattle.view_meaning.specs.Parts.{Part, plain, shows, begins, begun, area, branch, each, row, attr_part, parts_joined, ending, parts_step, item_parts, items_parts}
+use Rattle.view_meaning.specs.Parts.{Part, begins, begun, area, branch, each, row, attr_part, parts_joined, ending, parts_step, item_parts, items_parts}
 use Rattle.view_slots.specs.Home.{rowless}
 use Rattle.view_slots.proofs.HomeParts.{parts-joined}
 use Rattle.view_slots.proofs.Tests.{is_elsewhere, is_repeated, or_false, none_leading, none_either, none-append, items_placed}

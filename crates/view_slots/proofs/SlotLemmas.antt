@@ -1,5 +1,5 @@
 -- Slots that are mounted part after part.
-use Rattle.std.proofs.Common.{◌≡◌, ℕ, zero, suc, ◌+◌, ◌<◌, ◌≤◌, ◌⊎◌, inl, inr, ◌==◌, ◌||◌, ◌&&◌, Bool, true, false, if◌then◌else◌, Option, Some, List, [], ◌∷◌, ◌++◌, length, map, replicate, take, drop, slice_get, slice_set, refl, sym, ap, ◌∙◌, arith}
+use Rattle.std.proofs.Common.{◌≡◌, ℕ, zero, suc, ◌+◌, ◌<◌, ◌⊎◌, inl, inr, ◌==◌, ◌||◌, ◌&&◌, Bool, true, false, if◌then◌else◌, Option, Some, List, [], ◌∷◌, ◌++◌, length, map, replicate, take, drop, slice_get, slice_set, refl, sym, ap, ◌∙◌, arith}
 use Rattle.std.specs.List.{list_any, flat_map}
 use Rattle.std.specs.Option.{option_map}
 use Rattle.std.proofs.lemmas.Bool.{eqb-true}
@@ -12,7 +12,7 @@ use Rattle.plain_evaluation.specs.Place.{Place, place_at, same_key, same_place}
 use Rattle.plain_evaluation.proofs.Places.{place_itself}
 use Rattle.view_meaning.specs.Mounted.{Seen, cell_again}
 use Rattle.view_meaning.specs.Parts.{Part, shows, area, branch, each, begins, begun, ending, cell_in, has_cell}
-use Rattle.view_slots.specs.Home.{Face, Sides, opens_at, has_open, repeats, has_rows, face_with, sides_with, sides_celled, sides_opened, sides_repeated, by_id, mounted_with, IsOutside}
+use Rattle.view_slots.specs.Home.{Sides, opens_at, has_open, repeats, has_rows, sides_with, sides_celled, sides_opened, sides_repeated, by_id, mounted_with, IsOutside}
 
 -- ---- what is changed by id
 

@@ -1,9 +1,9 @@
 -- Tests of parts, and which parts items have none of.
-use Rattle.std.proofs.Common.{◌≡◌, ℕ, suc, ◌==◌, ◌||◌, ◌&&◌, not, if◌then◌else◌, Bool, true, false, List, [], ◌∷◌, ◌++◌, map, Option, Some, None, refl, sym, ap, subst, ◌∙◌}
+use Rattle.std.proofs.Common.{◌≡◌, ℕ, ◌==◌, ◌||◌, not, if◌then◌else◌, Bool, true, false, List, [], ◌∷◌, ◌++◌, map, Option, Some, refl, sym, ap, subst, ◌∙◌}
 use Rattle.std.specs.List.{list_any, flat_map, concat}
 use Rattle.std.proofs.lemmas.List.Folds.{list_any-append}
 use Rattle.values.specs.declared.code.Code.{Code}
-use Rattle.values.specs.Evaluation.{is_same, truth}
+use Rattle.values.specs.Evaluation.{truth}
 use Rattle.component_items.specs.declared.component.Attr.{Attr}
 use Rattle.component_items.specs.declared.component.Attr.TheVariants as attr
 use Rattle.component_items.specs.declared.component.Item.{Item}
@@ -12,7 +12,6 @@ use Rattle.component_items.specs.declared.component.Item.TheOpen.{Item-F}
 use Rattle.component_items.specs.declared.component.Item.TheViews.{roll-Item}
 use Rattle.component_items.specs.declared.component.Item.TheFolds.{fold-roll-Item, map-Item, ind-Item}
 use Rattle.component_items.specs.Ids.{attr_ids, ids_step, item_ids, ids_in}
-use Rattle.component_items.specs.Kept.{Standing, may_have_area, may_have_each, inside_area, inside_if, inside_each, inside_element, stand_all, stands_step, item_stands}
 use Rattle.plain_evaluation.specs.Page.{View}
 use Rattle.plain_evaluation.specs.Place.{Place, same_key, same_place, place_at}
 use Rattle.plain_evaluation.proofs.Places.{and_cases, or_none, place_itself}

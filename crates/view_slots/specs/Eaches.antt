@@ -1,5 +1,5 @@
 -- Where an `each` stands among items, with the items of its rows.
-use Rattle.std.specs.Prelude.{◌≡◌, ℕ, Bool, true, List, ◌∷◌}
+use Rattle.std.specs.Prelude.{ℕ, Bool, List, ◌∷◌}
 use Rattle.values.specs.declared.expr.Expr.{Expr}
 use Rattle.component_items.specs.declared.component.Attr.{Attr}
 use Rattle.component_items.specs.declared.component.Item.{Item}

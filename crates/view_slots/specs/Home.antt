@@ -2,7 +2,7 @@
 -- an `each` its home has only that it is mounted.
 use Rattle.std.specs.Prelude.{ℕ, ◌+◌, ◌-◌, ◌<◌, ◌≤◌, ◌⊎◌, ◌==◌, nat_le, Bool, true, false, if◌then◌else◌, List, [], ◌∷◌, map, replicate, slice_get, Option, Some, None}
 use Rattle.std.specs.List.{list_any}
-use Rattle.std.specs.Option.{option_map, option_map_or}
+use Rattle.std.specs.Option.{option_map_or}
 use Rattle.values.specs.declared.code.Code.{Code}
 use Rattle.component_items.specs.declared.component.Item.{Item}
 use Rattle.plain_evaluation.specs.Page.{View}

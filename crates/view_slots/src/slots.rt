@@ -1,11 +1,14 @@
 //! The slots of a home.
-ghost use Rattle.std.specs.Prelude.{◌≡◌, IfOk, None, Some};
+ghost use Rattle.std.specs.Prelude.{◌≡◌, IfOk, None, Some, List, Option as OptionOf};
 ghost use Rattle.std.specs.Option.{option_map};
 ghost use Rattle.component_items.specs.Kept.{IsKept};
-ghost use Rattle.view_meaning.specs.Mounted.{Mounted, mounted_again};
-ghost use Rattle.view_slots.specs.Home.{blank_home, home_parts, top_parts, remounted, home_undone, face_at};
+ghost use Rattle.values.specs.declared.code.Code.{Code as CodeValue};
+ghost use Rattle.view_meaning.specs.Mounted.{Seen, Mounted, mounted_again};
+ghost use Rattle.view_meaning.specs.Parts.{Part};
+ghost use Rattle.view_slots.specs.Eaches.{EachOf, StandsIn};
+ghost use Rattle.view_slots.specs.Home.{Home, blank_home, home_parts, top_parts, remounted, home_undone, face_at};
 ghost use Rattle.view_slots.specs.Seen.{seen_by};
-ghost use Rattle.view_slots.specs.Shows.{Shows};
+ghost use Rattle.view_slots.specs.Shows.{Shows, IsRowHome, IsMountedRow};
 
 use crate::mounting::{Mounting, slot_of};
 use crate::near::Near;
@@ -53,7 +56,8 @@ impl Slots {
 
     /// Mounts the row with this key of an `each` with these items again.
     pub fn remount_row(&mut self, sight: &Sight, items: &[Item], key: Code, near: &mut Near)
-        ensures { self.new ≡ remounted (seen_by sight.now) (home_parts (seen_by sight.now).view items.now (Some key)) (Some key) self.old }
+        ensures remounted { self.new ≡ remounted (seen_by sight.now) (home_parts (seen_by sight.now).view items.now (Some key)) (Some key) self.old }
+        ensures shows { (old : Mounted) (e : EachOf) → IsKept sight.now.component → StandsIn e sight.now.component.items → e.items ≡ items.now → IsMountedRow (seen_by sight.now).view sight.now.component.items e key → IsRowHome e self.old → Shows old (Some key) self.old → Shows (mounted_again sight.now.component.items (seen_by sight.now) old) (Some key) self.new }
     {
         self.remount(sight, items, Some(key), near);
     }
@@ -73,7 +77,8 @@ impl Slots {
 
     /// All is mounted as it was before it was mounted again.
     pub fn undo(&mut self)
-        ensures { self.new ≡ home_undone self.old }
+        ensures undone { self.new ≡ home_undone self.old }
+        ensures shows { (seen : Seen) (parts : List Part) (key : OptionOf CodeValue) (home : Home) (mounted : Mounted) (of : OptionOf CodeValue) → self.old ≡ remounted seen parts key home → Shows mounted of home → Shows mounted of self.new }
     {
         undo_all(self.slots.as_mut_slice());
     }

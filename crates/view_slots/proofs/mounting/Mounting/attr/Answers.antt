@@ -1,4 +1,4 @@
-use Rattle.std.proofs.Common.{◌≡◌, ◌∷◌, [], sym, ap, ◌∙◌}
+use Rattle.std.proofs.Common.{◌∷◌, [], sym, ap, ◌∙◌}
 use Rattle.view_meaning.specs.Parts.{attr_part}
 use Rattle.view_slots.specs.Home.{mounted_with}
 use Rattle.view_slots.specs.Plain.{all_sides}

@@ -1,4 +1,4 @@
-use Rattle.std.proofs.Common.{◌≡◌, List, None, sym, ap, subst, ◌∙◌}
+use Rattle.std.proofs.Common.{List, None, sym, ap, subst, ◌∙◌}
 use Rattle.view_meaning.specs.Mounted.{mounted_again}
 use Rattle.view_meaning.specs.Parts.{Part}
 use Rattle.view_slots.specs.Home.{remounted}
