@@ -1,9 +1,10 @@
 //! The object.
-ghost use Rattle.std.specs.Prelude.{◌≡◌, [], false, IfOk, IfErr, slice_get, slice_index_or};
+ghost use Rattle.std.specs.Prelude.{◌≡◌, ℕ, Some, [], false, IfOk, IfErr, slice_get, slice_index_or};
 ghost use Rattle.std.specs.Option.{option_map, option_copied, option_and_then};
 ghost use Rattle.script_items.specs.Script.{numbered};
 ghost use Rattle.plain_evaluation.specs.Changed.{store_of};
-ghost use Rattle.values.specs.Packing.{unpacked};
+ghost use Rattle.values.specs.Packing.{unpacked, IsPacked};
+ghost use Rattle.sources.specs.declared.opening.Opened.{Opened as OpenedValue};
 ghost use Rattle.component_items.specs.Kept.{IsKept};
 ghost use Rattle.held_state.specs.State.{IsOf, first_state};
 ghost use Rattle.load_meaning.specs.Polls.{AreInStep, first_loadings};
@@ -21,7 +22,7 @@ use load_polls::Loads;
 use node_names::{Names, NodePlace};
 use phase_graph::Graph;
 use run_journal::Journal;
-use sources::{Body, Colour};
+use sources::{Body, Colour, Opened};
 use std::alloc::Global;
 use std::marker::Model;
 use store_fields::{Rows, Verdict, Verdicts};
@@ -127,6 +128,21 @@ impl Still {
         ensures laid_out { self.now.graph.plan ≡ plan_of self.now.component (state_of self.now.state.held) }
     {
         self.graph.plan()
+    }
+
+    /// The places of the rows, in order.
+    pub fn names(&self) -> &Names
+        ensures { result.now ≡ self.now.places }
+    {
+        &self.names
+    }
+
+    /// What is kept of each row, in order.
+    pub fn kept_rows(&self) -> &[Opened]
+        ensures rows { result.now ≡ self.now.graph.rows }
+        ensures packed { (n : ℕ) (row : OpenedValue) → slice_get self.now.graph.rows n ≡ Some row → IsPacked row.code }
+    {
+        self.graph.rows()
     }
 
     /// The journal.
