@@ -7,6 +7,7 @@ use Rattle.values.specs.Evaluation.{is_same}
 use Rattle.component_items.specs.declared.component.Item.{Item}
 use Rattle.outside.specs.Counts.{next_count}
 use Rattle.view_meaning.specs.Mounted.{Seen}
+use Rattle.view_meaning.specs.Serials.{Rows as Serials}
 use Rattle.view_slots.specs.Home.{Home, blank_home, home_parts, remounted}
 
 -- a mounted row: its serial, and what it has mounted
@@ -42,3 +43,29 @@ planned base width old (k ∷ ks) next = (k, option_map_or (λ known. (0, blank_
 -- a row with these items mounted again
 abbrev pub row_again : Seen → List Item → Code × Row → Code × Row
 row_again seen items e = (e.0, (e.1.0, remounted seen (home_parts seen.view items (Some e.0)) (Some e.0) e.1.1))
+
+-- the rows that follow these keys, and what stands ready for them
+abbrev pub rows_arranged : ℕ → ℕ → Listed → List Code → Listed
+rows_arranged base width old ks = record { rows = arranged base width old.rows ks old.next; next = counted old.rows ks old.next }
+
+abbrev pub rows_planned : ℕ → ℕ → Listed → List Code → Listed
+rows_planned base width old ks = record { rows = planned base width old.rows ks old.next; next = counted old.rows ks old.next }
+
+-- all rows with these items mounted again
+abbrev pub rows_remounted : Seen → List Item → Listed → Listed
+rows_remounted seen items old = record { rows = map (row_again seen items) old.rows; next = old.next }
+
+-- no rows, and the next serial that there was
+abbrev pub rows_gone : Listed → Listed
+rows_gone old = record { rows = []; next = old.next }
+
+-- the mounted row with the key, if there is one
+abbrev pub row_with : Listed → Code → Option Row
+row_with listed key = lookup (is_same key) listed.rows
+
+-- the serials of the rows
+abbrev pub serial_of_row : Code × Row → Code × ℕ
+serial_of_row e = (e.0, e.1.0)
+
+abbrev pub serials_of : Listed → Serials
+serials_of listed = record { rows = map serial_of_row listed.rows; next = listed.next }

@@ -2,8 +2,8 @@
 //! and all that it has mounted.
 #![tactic(auto)]
 
-// mod rows;
+mod rows;
 mod table;
 
-// pub use rows::MountedRows;
+pub use rows::MountedRows;
 pub use table::Plan;

@@ -14,6 +14,7 @@ ghost use Rattle.view_rows.specs.Parts.{row_of, with_row, rows_in};
 use component_items::Item;
 use indexmap::IndexMap;
 use std::alloc::Global;
+use std::marker::Model;
 use store_fields::Rows;
 use values::{Code, NoMemory};
 use view_slots::{Near, Sight, Slots};
@@ -34,6 +35,15 @@ pub(crate) type Table = IndexMap<Code, RowPart>;
 pub struct Plan {
     pub(crate) rows: Table,
     pub(crate) next: u64,
+}
+
+impl Model for Plan {
+    ghost use Rattle.view_rows.specs.Listed.{Listed};
+    ghost use Rattle.view_rows.specs.Parts.{rows_in};
+
+    ghost Value = { Listed };
+
+    ghost view = { λ m. record { rows = rows_in m.rows; next = m.next } };
 }
 
 /// The key of the row at a place.
@@ -78,7 +88,7 @@ pub(crate) fn plan_for(
     base: u32,
     width: usize,
 ) -> Result<Plan, NoMemory>
-    ensures rows { IfOk result (λ plan. rows_in plan.rows ≡ planned base width (rows_in table.now) (keys rows.now.rows) next) }
+    ensures rows { IfOk result (λ plan. plan.rows ≡ planned base width (rows_in table.now) (keys rows.now.rows) next) }
     ensures next { IfOk result (λ plan. plan.next ≡ counted (rows_in table.now) (keys rows.now.rows) next) }
 {
     let mut planned = IndexMap::with_capacity(alloc, rows.count() as usize)?;
