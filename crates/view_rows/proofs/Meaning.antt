@@ -1,8 +1,7 @@
 -- The rows of an `each` that follow its store and are mounted again show the view that is made again.
-use Rattle.std.proofs.Common.{◌≡◌, ℕ, zero, suc, ◌+◌, ◌-◌, ◌<◌, ◌≤◌, nat_le, ◌==◌, ◌||◌, ◌&&◌, Bool, true, false, cond, if◌then◌else◌, Option, Some, None, List, [], ◌∷◌, map, length, replicate, slice_get, unwrap_or, refl, sym, ap, subst, ◌∙◌, arith}
+use Rattle.std.proofs.Common.{◌≡◌, ℕ, zero, suc, ◌+◌, ◌-◌, nat_le, ◌||◌, ◌&&◌, Bool, true, false, cond, if◌then◌else◌, Option, Some, None, List, [], ◌∷◌, map, length, replicate, slice_get, unwrap_or, refl, sym, ap, subst, ◌∙◌, arith}
 use Rattle.std.specs.List.{list_any}
 use Rattle.std.specs.Map.{lookup}
-use Rattle.std.specs.Option.{option_map}
 use Rattle.std.proofs.lemmas.List.{length-replicate, length-map}
 use Rattle.values.specs.declared.code.Code.{Code}
 use Rattle.values.specs.Evaluation.{is_same}
@@ -12,17 +11,17 @@ use Rattle.component_items.specs.declared.component.Item.{Item}
 use Rattle.component_items.specs.Ids.{ids_in}
 use Rattle.component_items.specs.Kept.{IsKept}
 use Rattle.plain_evaluation.specs.Place.{place_at, of_row}
-use Rattle.view_meaning.specs.Mounted.{Seen, Mounted, cell_again, mounted_again}
-use Rattle.view_meaning.specs.Parts.{parts_in, has_cell}
+use Rattle.view_meaning.specs.Mounted.{Seen, Mounted, nothing_mounted, cell_again, mounted_again}
+use Rattle.view_meaning.specs.Parts.{parts_in}
 use Rattle.view_meaning.specs.Serials.{rows_again}
 use Rattle.view_slots.specs.Eaches.{EachOf, StandsIn}
 use Rattle.view_slots.specs.Home.{Sides, Home, blank_sides, blank_home, home_parts, top_parts, has_open, has_rows, turned, sides_at, sides_with, remounted}
-use Rattle.view_slots.specs.Shows.{Shows, IsRowHome, IsMountedRow}
+use Rattle.view_slots.specs.Shows.{Shows, IsRowHome}
 use Rattle.view_slots.proofs.SlotLemmas.{length-by_id}
 use Rattle.view_slots.proofs.RowHomes.{range_has}
 use Rattle.view_slots.proofs.RowMeaning.{each_numbered, row_within, row_cell, row_open, page_row, row_shows, each_keys}
 use Rattle.view_slots.proofs.Tests.{has_cell-any, among, is_cell}
-use Rattle.view_rows.specs.Listed.{Row, Listed, count_after, counted, arranged, row_again, rows_arranged, rows_remounted, rows_gone, row_with, serial_of_row, serials_of}
+use Rattle.view_rows.specs.Listed.{Row, Listed, count_after, arranged, row_again, rows_remounted, rows_gone, row_with, serial_of_row}
 use Rattle.view_rows.specs.Shows.{IsIdOf, ShowsRows, rows_follow}
 use Rattle.view_rows.proofs.SerialLemmas.{serials-arranged}
 
@@ -188,3 +187,13 @@ module _ (seen : Seen) (component : Component) (old : Mounted) (e : EachOf) (bef
     no_cell = λ key id none is. nothing_shown key (ap (λ b. b && list_any (is_same key) keys) unmounted) id is;
     none_open = λ key id none is. nothing_open key (ap (λ b. b && list_any (is_same key) keys) unmounted) id is;
   }
+
+-- before anything was mounted there are no rows
+pub nothing_shows : (e : EachOf) → ShowsRows nothing_mounted e (record { rows = []; next = 0 })
+nothing_shows e = record {
+  serials = refl;
+  homes = λ key row is. cc;
+  there = λ key row is. cc;
+  no_cell = λ key id none is. refl;
+  none_open = λ key id none is. refl;
+}

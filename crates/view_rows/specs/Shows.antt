@@ -1,5 +1,5 @@
 -- When the mounted rows of an `each` show a mounted view.
-use Rattle.std.specs.Prelude.{◌≡◌, ℕ, ◌+◌, ◌<◌, ◌≤◌, false, length, Option, Some, None}
+use Rattle.std.specs.Prelude.{◌≡◌, ℕ, ◌+◌, ◌<◌, ◌≤◌, false, length, Some, None}
 use Rattle.values.specs.declared.code.Code.{Code}
 use Rattle.component_items.specs.Ids.{ids_in}
 use Rattle.plain_evaluation.specs.Place.{of_row}

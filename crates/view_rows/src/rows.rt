@@ -1,10 +1,16 @@
 //! The mounted rows.
-ghost use Rattle.std.specs.Prelude.{◌≡◌, true, ℕ, [], IfOk};
+ghost use Rattle.std.specs.Prelude.{◌≡◌, true, false, ℕ, [], IfOk};
 ghost use Rattle.std.specs.Option.{option_map, option_copied};
 ghost use Rattle.store_fields.specs.Edits.{keys};
+ghost use Rattle.component_items.specs.declared.component.Component.{Component as ComponentValue};
+ghost use Rattle.component_items.specs.Kept.{IsKept};
+ghost use Rattle.view_meaning.specs.Mounted.{Seen, Mounted, nothing_mounted, mounted_again};
 ghost use Rattle.view_meaning.specs.Serials.{rows_again};
+ghost use Rattle.view_slots.specs.Eaches.{EachOf, StandsIn};
+ghost use Rattle.view_slots.specs.Home.{has_rows, top_parts};
 ghost use Rattle.view_slots.specs.Seen.{seen_by};
-ghost use Rattle.view_rows.specs.Listed.{rows_arranged, rows_planned, rows_remounted, rows_gone, row_with, serials_of};
+ghost use Rattle.view_rows.specs.Listed.{Listed, rows_arranged, rows_planned, rows_remounted, rows_gone, row_with, serials_of};
+ghost use Rattle.view_rows.specs.Shows.{ShowsRows, rows_follow};
 
 use crate::table::{self, Plan, Table};
 use component_items::Item;
@@ -35,7 +41,8 @@ impl Model for MountedRows {
 impl MountedRows {
     /// No row was mounted yet.
     pub fn new(alloc: Global) -> MountedRows
-        ensures { result ≡ record { rows = []; next = 0 } }
+        ensures none { result ≡ record { rows = []; next = 0 } }
+        ensures shows { (e : EachOf) → ShowsRows nothing_mounted e result }
     {
         MountedRows {
             rows: IndexMap::new(alloc),
@@ -80,16 +87,20 @@ impl MountedRows {
         self.next = next;
     }
 
-    /// Mounts these items again in each row.
+    /// Mounts these items again in each row. Where the rows follow their store by then, and the `each` with these items
+    /// is mounted, they show the view that is made again.
     pub fn remount(&mut self, sight: &Sight, items: &[Item], near: &mut Near)
-        ensures { self.new ≡ rows_remounted (seen_by sight.now) items.now self.old }
+        ensures remounted { self.new ≡ rows_remounted (seen_by sight.now) items.now self.old }
+        ensures shows { (old : Mounted) (e : EachOf) (before : Listed) → IsKept sight.now.component → StandsIn e sight.now.component.items → e.items ≡ items.now → has_rows (top_parts (seen_by sight.now).view sight.now.component.items) e.id ≡ true → ShowsRows old e before → self.old ≡ rows_follow (seen_by sight.now) e before → ShowsRows (mounted_again sight.now.component.items (seen_by sight.now) old) e self.new }
     {
         table::remount_all(&mut self.rows, sight, items, near);
     }
 
-    /// Mounts no row any more. The count of serials stays.
+    /// Mounts no row any more. The count of serials stays. Where the `each` is not mounted, the rows show the view that
+    /// is made again.
     pub fn clear(&mut self)
-        ensures { self.new ≡ rows_gone self.old }
+        ensures gone { self.new ≡ rows_gone self.old }
+        ensures shows { (seen : Seen) (component : ComponentValue) (old : Mounted) (e : EachOf) → IsKept component → StandsIn e component.items → has_rows (top_parts seen.view component.items) e.id ≡ false → ShowsRows old e self.old → ShowsRows (mounted_again component.items seen old) e self.new }
     {
         self.rows.clear();
     }
