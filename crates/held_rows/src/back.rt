@@ -134,10 +134,7 @@ fn row_value(rows: &[Opened], row: u32) -> Code
     requires { ArePacked rows.now }
     ensures { result ≡ value_in rows.now row }
 {
-    match Code::unpack(row_word(rows, row)) {
-        Some(code) => code,
-        None => Code::Empty,
-    }
+    Code::from_packed(row_word(rows, row))
 }
 
 /// The same, packed.

@@ -49,6 +49,7 @@ impl Graph {
             edit_room: 0,
             idle: None,
             inside,
+            renewed: true,
         })
     }
 
@@ -89,14 +90,14 @@ impl Graph {
         self.table.settle_span(from, to);
     }
 
-    /// Counts anew from here: the count of ticks is the base, and no number is drawn yet. Who read what before, and not
-    /// in its last run, is no reader any more. It takes no memory.
+    /// Counts anew from here: the count of ticks is the base, and no number is drawn yet. Where a source gets another
+    /// value from here on, who read it before, and not in its last run, is no reader of it any more. It takes no memory.
     pub fn rebase(&mut self)
         requires closed { self.old.is_open ≡ false }
         requires ticks { ticks_of self.old < 2 ^ 62 }
         ensures { self.new ≡ record self.old { base = ticks_of self.old; drawn = 0 } }
     {
-        self.table.subscribe();
+        self.renewed = false;
         self.table.rebase();
     }
 

@@ -22,6 +22,8 @@ pub struct Graph {
     pub(crate) idle: Option<Reserved<Noted>>,
     /// What a disposal works with: whether each owner is in its area.
     pub(crate) inside: Vec<bool>,
+    /// Between phases, whether it was made exact who has read what since numbers were last counted anew.
+    pub(crate) renewed: bool,
 }
 
 impl Model for Graph {

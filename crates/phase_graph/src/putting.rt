@@ -28,7 +28,20 @@ impl Graph {
         ensures others { (n : ℕ) (one two : OpenedValue) → n ≢ row → slice_get self.old.rows n ≡ Some one → slice_get self.new.rows n ≡ Some two → two ≡ record one { colour = two.colour } }
         ensures settled { (bound : ℕ) → ((n : ℕ) (node : NodeValue) → slice_get self.old.plan.nodes n ≡ Some node → Contains (rows_in node.expr) row → is_derived node.kind ≡ true → bound ≤ n) → (n : ℕ) → n < bound → n ≢ row → slice_get self.new.rows n ≡ slice_get self.old.rows n }
     {
+        self.make_exact();
         self.table.renew(row, code);
+    }
+
+    /// Makes exact who has read what, where it isn't.
+    fn make_exact(&mut self)
+        requires { self.old.base < 2 ^ 62 }
+        ensures { self.new ≡ self.old }
+    {
+        if self.renewed {
+            return;
+        }
+        self.table.subscribe();
+        self.renewed = true;
     }
 }
 

@@ -100,6 +100,7 @@ impl Graph {
         self.edit_room = 0;
         self.idle = None;
         self.inside = inside;
+        self.renewed = true;
     }
 }
 

@@ -1,4 +1,2 @@
-pub mod ToldAnswers
 pub mod Rounds
-pub mod Made
 pub mod Runs

@@ -20,14 +20,14 @@ use Rattle.report_text.proofs.LineLemmas.{report_from-push}
 use Rattle.run_weave.specs.Lanes.{told}
 use Rattle.script_run.specs.declared.run.Ran.{Ran}
 use Rattle.lane_run.specs.Lanes.{lanes_at}
-use Rattle.script_run.specs.Phases.{IsMade}
+use Rattle.phase_run.specs.Phases.{IsMade}
 use Rattle.script_run.specs.Ran.{IsRanTo, GoesOn, LoaderCounts}
 use Rattle.settling_rounds.specs.Settlings.{Settles}
 use Rattle.still_graph.specs.declared.still.Stage.TheVariants.{Made}
 use Rattle.still_graph.specs.Still.{StillState, IsSettledAfter}
 use Rattle.lane_run.proofs.Lists.{map_last}
 use Rattle.lane_run.proofs.Asked.{lanes_behind}
-use Rattle.script_run.proofs.Made.{told_ops}
+use Rattle.phase_run.proofs.Made.{told_ops}
 use Rattle.script_run.proofs.Rounds.{alone, refused_last}
 
 phases_last : (steps : List Settled) (s : Settled) → phases_of (steps ++ s ∷ []) ≡ phases_of steps ++ s.phase ∷ []

@@ -1,4 +1,2 @@
 pub mod Today
-pub mod Phases
-pub mod Told
 pub mod Ran

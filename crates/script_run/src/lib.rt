@@ -3,7 +3,6 @@
 
 mod phase;
 mod run;
-mod telling;
 mod today;
 
 pub use run::{Ran, run_script};

@@ -1,8 +1,9 @@
 //! Who reads each row, and who has read it.
-ghost use Rattle.std.specs.Prelude.{◌≡◌, ◌<◌, ◌≤◌, true, false, ℕ, List, length, slice_get, slice_set, Some, None, IfSome, IfNone};
+ghost use Rattle.std.specs.Prelude.{◌≡◌, ◌+◌, ◌<◌, ◌≤◌, true, false, ℕ, List, length, slice_get, slice_set, Some, None, IfSome, IfNone};
 ghost use Rattle.values.specs.declared.plan.PlanNode.{PlanNode as NodeValue};
 ghost use Rattle.sources.specs.Bodies.{rows_read};
 ghost use Rattle.sources.specs.Rows.{IsGood};
+ghost use Rattle.sources.specs.declared.body.Read.{Read as ReadValue};
 ghost use Rattle.still_readers.specs.declared.readers.Reader.{Reader as ReaderValue};
 ghost use Rattle.still_readers.specs.Readers.{stands_in, has_recorded, IsReadersOf, IsEnrolled, HasRead, IsEnrolledAt, IsReflagged, IsPlaceIn, IsNoneIn, IsOwnReader, IsReadIn, IsExact};
 
@@ -52,41 +53,24 @@ impl Readers {
         }
     }
 
-    /// The same, where the row is likely the one of the node's reader at this place, counted from its
-    /// first one. There it takes one look.
-    pub fn enrol_read(&mut self, node: u32, row: u32, place: usize)
-        ensures at { IsEnrolledAt node row self.old self.new }
-        ensures of_plan { (nodes : List NodeValue) → IsReadersOf nodes self.old → IsReadersOf nodes self.new }
+    /// So many of these reads, from the first on, are of the rows of the node's readers in order, and the
+    /// node has read them. It takes one look for each.
+    pub fn count_read(&self, node: u32, reads: &[Read]) -> usize
+        ensures within { result ≤ length reads.now }
+        ensures read { (k : ℕ) (read : ReadValue) → k < result → slice_get reads.now k ≡ Some read → IsReadIn self.now node read.row }
     {
-        if self.has_read_at(node, row, place) {
-            return;
-        }
-        self.enrol(node, row);
-    }
-
-    /// Whether the node's reader at this place, counted from its first one, has read the row.
-    fn has_read_at(&self, node: u32, row: u32, place: usize) -> bool
-        ensures { result ≡ true → IsReadIn self.now node row }
-    {
-        match self.reader_at(node, place) {
-            Some(reader) => has_read(reader, row),
-            None => false,
+        match self.own_readers(node) {
+            Some(own) => count_in_order(own, reads),
+            None => 0,
         }
     }
 
-    /// The node's reader at this place, counted from its first one.
-    fn reader_at(&self, node: u32, place: usize) -> Option<Reader>
-        ensures { IfSome result (λ reader. IsOwnReader self.now node reader) }
+    /// The readers of a node, in order.
+    fn own_readers(&self, node: u32) -> Option<&[Reader]>
+        ensures { IfSome result (λ own. (k : ℕ) (reader : ReaderValue) → slice_get own.now k ≡ Some reader → IsOwnReader self.now node reader) }
     {
         let span = self.spans.at(node as usize)?;
-        let at = span.from.checked_add(place)?;
-        if at >= span.to {
-            return None;
-        }
-        match self.list.at(at) {
-            Some(reader) => Some(*reader),
-            None => None,
-        }
+        self.list.as_slice().get(span.from..span.to)
     }
 
     /// Makes the flags say which rows the bodies record, and nothing else.
@@ -163,6 +147,23 @@ fn has_read(reader: Reader, row: u32) -> bool
     ensures { result ≡ true → (reader.row ≡ row) × (reader.enrolled ≡ true) }
 {
     reader.row == row && reader.enrolled
+}
+
+/// So many of these reads, from the first on, are of the rows of these readers in order, which have
+/// read them.
+fn count_in_order(own: &[Reader], reads: &[Read]) -> usize
+    ensures within { result ≤ length reads.now }
+    ensures short { result ≤ length own.now }
+    ensures read { (k : ℕ) (reader : ReaderValue) (read : ReadValue) → k < result → slice_get own.now k ≡ Some reader →
+        slice_get reads.now k ≡ Some read → (reader.row ≡ read.row) × (reader.enrolled ≡ true) }
+{
+    let most = own.len().min(reads.len());
+    for place in 0..most {
+        if !has_read(own[place], reads[place].row) {
+            return place;
+        }
+    }
+    most
 }
 
 /// Whether a row stands among the reads.

@@ -74,9 +74,10 @@ fn changed(rows: &[Opened], recorded: &[Read], at: usize) -> Cause
 fn enrol_all(readers: &mut Readers, node: u32, reads: &[Read])
     ensures { IsEnrolledFor node reads.now (length reads.now) readers.old readers.new }
 {
-    for place in 0..reads.len() {
+    let read_before = readers.count_read(node, reads);
+    for place in read_before..reads.len() {
         let read = read_at(reads, place);
-        readers.enrol_read(node, read.row, place);
+        readers.enrol(node, read.row);
     }
 }
 
@@ -109,8 +110,8 @@ pub fn record_run(
     ensures { (row : OpenedValue) → slice_get rows.old frame.node ≡ Some row →
         IsRunRecorded rows.old rows.new readers.old readers.new frame code version reads.now.list row }
 {
-    let cause = cause_of(rows, row_at(rows, frame.node), frame);
     enrol_all(readers, frame.node, reads.as_slice());
+    let cause = cause_of(rows, row_at(rows, frame.node), frame);
     put(
         rows,
         frame.node,

@@ -13,13 +13,13 @@ use Rattle.run_meaning.specs.Run.{phases_of, answers_of_lanes}
 use Rattle.run_weave.specs.Lanes.{told}
 use Rattle.script_run.specs.declared.run.Ran.{Ran}
 use Rattle.lane_run.specs.Lanes.{lanes_at}
-use Rattle.script_run.specs.Told.{first_verdicts, answers_told}
+use Rattle.phase_run.specs.Told.{first_verdicts, answers_told}
 use Rattle.lane_run.specs.Today.{LanesRun}
 use Rattle.lane_run.proofs.Asked.{lanes_behind}
-use Rattle.script_run.proofs.Made.{run_held, run_owners, past_fits}
+use Rattle.phase_run.proofs.Made.{run_held, run_owners, past_fits}
 use Rattle.script_run.proofs.Runs.{as_many, lines_if, same_lines, what_came, runs_on}
 use Rattle.lane_run.proofs.Steps.{not_open}
-use Rattle.script_run.proofs.ToldAnswers.{answers_are_told, told_behind, few_answers}
+use Rattle.phase_run.proofs.ToldAnswers.{answers_are_told, told_behind, few_answers}
 use Rattle.script_run.proofs.phase.run_phase.Goals as goal
 
 pub make_phase-requires-clause-fits : goal.make_phase-requires-clause-fits

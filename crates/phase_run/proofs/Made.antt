@@ -27,7 +27,7 @@ use Rattle.run_weave.specs.Lanes.{lane_of, TargetsFit, OfCalls, phase_with, told
 use Rattle.phase_edits.specs.Posts.{ArePosted}
 use Rattle.still_graph.specs.Still.{StillState, opened_in, IsOpenAt, HasEnded}
 use Rattle.lane_run.specs.Lanes.{IsThrough, HaveDone}
-use Rattle.script_run.specs.Phases.{IsMade}
+use Rattle.phase_run.specs.Phases.{IsMade}
 use Rattle.lane_run.specs.Today.{LanesRun}
 use Rattle.lane_run.proofs.Noted.{same_edits}
 use Rattle.lane_run.proofs.Steps.{same_opened}

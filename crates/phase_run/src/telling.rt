@@ -4,7 +4,7 @@ ghost use Rattle.run_items.specs.declared.answer.Answer.{Answer as AnswerValue};
 ghost use Rattle.run_meaning.specs.Lane as meaning;
 ghost use Rattle.run_weave.specs.Lanes as weave;
 ghost use Rattle.lane_run.specs.Today.{most_ops};
-ghost use Rattle.script_run.specs.Told.{is_accepted, first_verdicts, verdict_at, answer_told, answers_told};
+ghost use Rattle.phase_run.specs.Told.{is_accepted, first_verdicts, verdict_at, answer_told, answers_told};
 
 use run_items::{Answer, Answers, Reply};
 use still_graph::Still;
@@ -77,7 +77,7 @@ fn tell(still: &Still, answers: &mut Answers, place: usize, index: u32) -> u32
 
 /// Tells the accepted edits among the answers from the first on what came of them in the phase that was settled last.
 /// They are those of its only lane, in their order.
-pub(crate) fn tell_edits(still: &Still, answers: &mut Answers, first: usize)
+pub fn tell_edits(still: &Still, answers: &mut Answers, first: usize)
     requires within { first ≤ length answers.old }
     requires few { length answers.old ≤ first + most_ops }
     ensures { answers.new ≡ take first answers.old ++ answers_told (first_verdicts still.now.verdicts) 0 (drop first answers.old) }

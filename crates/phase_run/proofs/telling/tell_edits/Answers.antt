@@ -1,8 +1,8 @@
 use Rattle.std.proofs.Common.{◌≤◌, ℕ, ◌+◌, List, length, take, drop, sym, subst, arith}
 use Rattle.store_fields.specs.declared.edit.Verdict.{Verdict}
-use Rattle.script_run.specs.Told.{first_verdicts}
-use Rattle.script_run.proofs.ToldAnswers.{AreToldTo, none_told, one_told, all_told, told_within}
-use Rattle.script_run.proofs.telling.tell_edits.Goals as goal
+use Rattle.phase_run.specs.Told.{first_verdicts}
+use Rattle.phase_run.proofs.ToldAnswers.{AreToldTo, none_told, one_told, all_told, told_within}
+use Rattle.phase_run.proofs.telling.tell_edits.Goals as goal
 
 pub loop-place-init : goal.loop-place-init
 loop-place-init c = none_told (first_verdicts c.args.still.now.verdicts) c.args.answers.now c.args.first c.requires.within

@@ -22,7 +22,7 @@ use Rattle.lane_run.specs.Lanes.{edits_told}
 use Rattle.lane_run.specs.Today.{LanesRun, most_ops}
 use Rattle.lane_run.proofs.Lists.{count_cons}
 use Rattle.lane_run.proofs.Noted.{same_edits_of}
-use Rattle.script_run.specs.Told.{is_accepted, answer_told, first_verdicts, verdict_at, answers_told, accepted_among}
+use Rattle.phase_run.specs.Told.{is_accepted, answer_told, first_verdicts, verdict_at, answers_told, accepted_among}
 
 -- ---- answer by answer
 

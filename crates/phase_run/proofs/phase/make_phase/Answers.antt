@@ -3,8 +3,8 @@ use Rattle.plain_evaluation.proofs.Fitting.{rows_of_held}
 use Rattle.run_meaning.specs.Opened.{opened_of}
 use Rattle.lane_run.specs.Lanes.{lanes_at}
 use Rattle.still_graph.specs.Still.{StillState}
-use Rattle.script_run.proofs.Made.{phase_made}
-use Rattle.script_run.proofs.phase.make_phase.Goals as goal
+use Rattle.phase_run.proofs.Made.{phase_made}
+use Rattle.phase_run.proofs.phase.make_phase.Goals as goal
 
 pub run_lanes-requires-clause-fresh : goal.run_lanes-requires-clause-fresh
 run_lanes-requires-clause-fresh g c κs within = record {
