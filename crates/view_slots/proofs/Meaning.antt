@@ -138,7 +138,7 @@ outer_open id = record { rows = λ each k. refl; others = others }
     others k (each own store) h = cc
     others k (row own key) h = cc
 
-outer_repeats : (id : ℕ) → IsOuter (repeats id)
+pub outer_repeats : (id : ℕ) → IsOuter (repeats id)
 outer_repeats id = record { rows = λ each k. refl; others = others }
   where
     others : (k : Code) (part : Part) → repeats id part ≡ true → (is_elsewhere (Some k) part || is_repeated part) ≡ true
@@ -155,7 +155,7 @@ outer_repeats id = record { rows = λ each k. refl; others = others }
     others k (each own store) h = refl
     others k (row own key) h = cc
 
-top_split : (view : View) (component : Component) (test : Part → Bool) → IsOuter test → IsKept component → list_any test (parts_in view component.items) ≡ list_any test (top_parts view component.items)
+pub top_split : (view : View) (component : Component) (test : Part → Bool) → IsOuter test → IsKept component → list_any test (parts_in view component.items) ≡ list_any test (top_parts view component.items)
 top_split view component test outer kept = at (view.live 0)
   where
     at : (live : Bool) → list_any test (if live then items_parts view component.items None else []) ≡ list_any test (if live then items_parts (rowless view) component.items None else [])

@@ -14,8 +14,8 @@ use Rattle.component_items.specs.Kept.{Standing, may_have_area, may_have_each, i
 use Rattle.component_items.proofs.FoldLemmas.{fold-Area, fold-If, fold-Each, fold-Element, at-Area, at-If, at-Each, at-Element}
 use Rattle.plain_evaluation.specs.Page.{View}
 use Rattle.plain_evaluation.specs.Place.{place_at}
-use Rattle.plain_evaluation.proofs.Places.{and_cases, or_none, same_code}
-use Rattle.view_meaning.specs.Parts.{Part, plain, shows, begins, bare, fixed, valued, begun, ends, area, branch, each, row, attr_part, ending, parts_step, item_parts, items_parts}
+use Rattle.plain_evaluation.proofs.Places.{and_cases, and_both, or_none, same_code}
+use Rattle.view_meaning.specs.Parts.{Part, plain, shows, begins, bare, fixed, valued, begun, ends, area, branch, each, row, attr_part, ending, parts_step, item_parts, items_parts, is_each, has_each}
 use Rattle.view_slots.specs.Home.{rowless, repeats, has_rows}
 use Rattle.view_slots.specs.Eaches.{EachOf, StandsIn, here, later, in_area, in_if, in_element}
 use Rattle.view_slots.proofs.HomeParts.{parts-joined, parts-Area, parts-If, parts-Element, parts-Each}
@@ -318,3 +318,69 @@ module _ (view : View) (e : EachOf) (key : Code) (test : Part → Bool) (id : �
       any_element view test id of.with_id tag closed attrs inner more apart (each_among e id inner st (either_second (e.id == id) (among id (ids_in e.items)) has))
       ∙ has_row inner (inside_element s) deep (second_apart (flat_map attr_ids attrs) (ids_in inner) (first_apart (flat_map attr_ids attrs ++ ids_in inner) (ids_in more) split)) st
       ∙ ap (λ t. (t && list_any (is_same key) (view.keys e.id e.store)) && own) (sym (any_element (rowless view) (repeats e.id) e.id (repeats_with e.id) tag closed attrs inner more apart (each_among e e.id inner st (either_first (e.id == e.id) (among e.id (ids_in e.items)) (grind arith)))))
+
+-- ---- an `each` that is mounted is that of its store
+
+each_with : (id store : ℕ) (part : Part) → is_each id store part ≡ true → has_id id part ≡ true
+each_with id store (plain number) h = cc
+each_with id store (shows q) h = cc
+each_with id store (begins tag) h = cc
+each_with id store (bare name) h = cc
+each_with id store (fixed name number) h = cc
+each_with id store (valued name q) h = cc
+each_with id store begun h = cc
+each_with id store (ends tag) h = cc
+each_with id store (area q) h = cc
+each_with id store (branch q) h = cc
+each_with id store (each own from) h = either_first (own == id) false (and_cases (own == id) (from == store) h).0
+each_with id store (row own k) h = cc
+
+pub repeats_each : (id store : ℕ) (part : Part) → is_each id store part ≡ true → repeats id part ≡ true
+repeats_each id store (plain number) h = cc
+repeats_each id store (shows q) h = cc
+repeats_each id store (begins tag) h = cc
+repeats_each id store (bare name) h = cc
+repeats_each id store (fixed name number) h = cc
+repeats_each id store (valued name q) h = cc
+repeats_each id store begun h = cc
+repeats_each id store (ends tag) h = cc
+repeats_each id store (area q) h = cc
+repeats_each id store (branch q) h = cc
+repeats_each id store (each own from) h = (and_cases (own == id) (from == store) h).0
+repeats_each id store (row own k) h = cc
+
+module _ (view : View) (e : EachOf) where
+  abbrev OneStore : List Item → Type 0
+  OneStore items = has_each (items_parts view items None) e.id e.store ≡ has_rows (items_parts view items None) e.id
+
+  in_it : (items : List Item) → StandsIn e items → among e.id (ids_in items) ≡ true
+  in_it items st = each_among e e.id items st (either_first (e.id == e.id) (among e.id (ids_in e.items)) (grind arith))
+
+  itself : (id store : ℕ) → ((id == id) && (store == store)) ≡ true
+  itself id store = and_both (id == id) (store == store) (grind arith) (grind arith)
+
+  pub one_store : (items : List Item) → AreApart (ids_in items) → StandsIn e items → OneStore items
+  one_store items apart (here more) =
+      let rest : List Part = flat_map (λ k. row e.id k ∷ items_parts view e.items (Some k)) (view.keys e.id e.store) ++ items_parts view more None in
+      ap (λ l. has_each (l ++ items_parts view more None) e.id e.store) (parts-rows view e.id e.store e.items None)
+      ∙ either_first ((e.id == e.id) && (e.store == e.store)) (has_each rest e.id e.store) (itself e.id e.store)
+      ∙ sym (ap (λ l. has_rows (l ++ items_parts view more None) e.id) (parts-rows view e.id e.store e.items None) ∙ either_first (e.id == e.id) (has_rows rest e.id) (grind arith))
+  one_store items apart (later item more st) =
+      any_later view (is_each e.id e.store) e.id (each_with e.id e.store) item more apart (in_it more st)
+      ∙ one_store more (second_apart (item_ids item) (ids_in more) apart) st
+      ∙ sym (any_later view (repeats e.id) e.id (repeats_with e.id) item more apart (in_it more st))
+  one_store items apart (in_area n name owner inner more st) =
+      let split : AreApart ((n ∷ ids_in inner) ++ ids_in more) = subst AreApart (ap (λ l. l ++ ids_in more) (ids-Area n name owner inner)) apart in
+      any_area view (is_each e.id e.store) e.id (each_with e.id e.store) n name owner inner more apart (in_it inner st)
+      ∙ ap (λ b. view.live owner && b) (one_store inner (first_apart (ids_in inner) (ids_in more) split.1) st)
+      ∙ sym (any_area view (repeats e.id) e.id (repeats_with e.id) n name owner inner more apart (in_it inner st))
+  one_store items apart (in_if n cond inner more st) =
+      let split : AreApart ((n ∷ ids_in inner) ++ ids_in more) = subst AreApart (ap (λ l. l ++ ids_in more) (ids-If n cond inner)) apart in
+      any_if view (is_each e.id e.store) e.id (each_with e.id e.store) n cond inner more apart (in_it inner st)
+      ∙ ap (λ b. truth (view.value (place_at n None)) && b) (one_store inner (first_apart (ids_in inner) (ids_in more) split.1) st)
+      ∙ sym (any_if view (repeats e.id) e.id (repeats_with e.id) n cond inner more apart (in_it inner st))
+  one_store items apart (in_element tag closed attrs inner more st) =
+      let split : AreApart ((flat_map attr_ids attrs ++ ids_in inner) ++ ids_in more) = subst AreApart (ap (λ l. l ++ ids_in more) (ids-Element tag closed attrs inner)) apart in
+      any_element view (is_each e.id e.store) e.id (each_with e.id e.store) tag closed attrs inner more apart (in_it inner st)
+      ∙ one_store inner (second_apart (flat_map attr_ids attrs) (ids_in inner) (first_apart (flat_map attr_ids attrs ++ ids_in inner) (ids_in more) split)) st
+      ∙ sym (any_element view (repeats e.id) e.id (repeats_with e.id) tag closed attrs inner more apart (in_it inner st))

@@ -14,13 +14,14 @@ use Rattle.plain_evaluation.specs.Page.{View}
 use Rattle.plain_evaluation.specs.Place.{Place, same_key, same_place, of_row}
 use Rattle.plain_evaluation.proofs.Places.{and_cases, same_code}
 use Rattle.view_meaning.specs.Mounted.{Seen, Mounted, mounted_again}
-use Rattle.view_meaning.specs.Parts.{Part, plain, shows, begins, bare, fixed, valued, begun, ends, area, branch, each, row, items_parts, parts_in}
-use Rattle.view_slots.specs.Home.{Sides, Home, rowless, home_parts, top_parts, opens_at, has_open, has_rows, sides_at, remounted}
+use Rattle.view_meaning.specs.Parts.{Part, plain, shows, begins, bare, fixed, valued, begun, ends, area, branch, each, row, items_parts, parts_in, keys_mounted, is_each, has_each}
+use Rattle.view_meaning.proofs.Apart.{rows_stand}
+use Rattle.view_slots.specs.Home.{Sides, Home, rowless, home_parts, top_parts, opens_at, has_open, repeats, has_rows, sides_at, remounted}
 use Rattle.view_slots.specs.Eaches.{EachOf, StandsIn, here, later, in_area, in_if, in_element}
 use Rattle.view_slots.specs.Shows.{Shows, IsRowHome, IsMountedRow}
-use Rattle.view_slots.proofs.Tests.{is_cell, has_cell-any, has_id, is_elsewhere, among}
-use Rattle.view_slots.proofs.Meaning.{shows_again}
-use Rattle.view_slots.proofs.RowHomes.{AreApart, range_apart, range_has, ids-Area, ids-If, ids-Each, ids-Element, all_stand, IsOfRow, has_row}
+use Rattle.view_slots.proofs.Tests.{is_cell, has_cell-any, has_id, is_elsewhere, among, none_leading}
+use Rattle.view_slots.proofs.Meaning.{shows_again, top_split, outer_repeats}
+use Rattle.view_slots.proofs.RowHomes.{AreApart, range_apart, range_has, ids-Area, ids-If, ids-Each, ids-Element, all_stand, IsOfRow, has_row, one_store, repeats_each}
 
 -- ---- the ids of an `each` are numbered
 
@@ -42,7 +43,7 @@ Numbered n ids = ids ≡ range_with_len n (length ids)
 parted : (item : Item) (more : List Item) (ids : List ℕ) (n : ℕ) → item_ids item ≡ ids → Numbered n (ids_in (item ∷ more)) → Numbered n (ids ++ ids_in more)
 parted item more ids n is numbered = subst (λ l. Numbered n (l ++ ids_in more)) is numbered
 
-each_numbered : (e : EachOf) (items : List Item) (n : ℕ) → Numbered n (ids_in items) → StandsIn e items → Numbered (e.id + 1) (ids_in e.items)
+pub each_numbered : (e : EachOf) (items : List Item) (n : ℕ) → Numbered n (ids_in items) → StandsIn e items → Numbered (e.id + 1) (ids_in e.items)
 each_numbered e items n is (here more) =
     let split = range_split (e.id ∷ ids_in e.items) (ids_in more) n (parted (Each e.id e.store e.items) more (e.id ∷ ids_in e.items) n (ids-Each e.id e.store e.items) is) in
     let one = first_is e.id n (ids_in e.items) split.0 in
@@ -59,15 +60,20 @@ each_numbered e items n is (in_element tag closed attrs inner more st) =
     each_numbered e inner (n + length (flat_map attr_ids attrs)) (range_split (flat_map attr_ids attrs) (ids_in inner) n split.0).1 st
 
 -- an id that the home of a row has is one of the `each`
-row_id : (e : EachOf) (home : Home) (id : ℕ) (s : Sides) → IsRowHome e home → Numbered (e.id + 1) (ids_in e.items) → sides_at home id ≡ Some s → among id (ids_in e.items) ≡ true
-row_id e home id s is_home numbered got = at (nat_le home.base id) refl got
+pub row_within : (e : EachOf) (home : Home) (id : ℕ) (s : Sides) → IsRowHome e home → sides_at home id ≡ Some s → (e.id + 1 ≤ id) × (id < e.id + 1 + length (ids_in e.items))
+row_within e home id s is_home got = at (nat_le home.base id) refl got
   where
-    at : (b : Bool) → nat_le home.base id ≡ b → (if b then slice_get home.sides (id - home.base) else None) ≡ Some s → among id (ids_in e.items) ≡ true
+    at : (b : Bool) → nat_le home.base id ≡ b → (if b then slice_get home.sides (id - home.base) else None) ≡ Some s → (e.id + 1 ≤ id) × (id < e.id + 1 + length (ids_in e.items))
     at true is found =
         let low : home.base ≤ id = leb-true home.base id is in
         let high : id - home.base < length home.sides = slice_get_within home.sides (id - home.base) s found in
-        ap (among id) numbered ∙ range_has (e.id + 1) (length (ids_in e.items)) id (omega (arith, low, is_home.base)) (omega (arith, low, high, is_home.base, is_home.count))
+        (omega (arith, low, is_home.base), omega (arith, low, high, is_home.base, is_home.count))
     at false is found = cc
+
+row_id : (e : EachOf) (home : Home) (id : ℕ) (s : Sides) → IsRowHome e home → Numbered (e.id + 1) (ids_in e.items) → sides_at home id ≡ Some s → among id (ids_in e.items) ≡ true
+row_id e home id s is_home numbered got =
+    let w = row_within e home id s is_home got in
+    ap (among id) numbered ∙ range_has (e.id + 1) (length (ids_in e.items)) id w.0 w.1
 
 -- ---- the parts of one row
 
@@ -88,7 +94,7 @@ with_key id key other apart q h = at q.key (and_cases (q.id == id) (same_key q.k
 or_it : (b : Bool) → b ≡ true → (b || false) ≡ true
 or_it b h = ap (λ x. x || false) h
 
-row_cell : (id : ℕ) (key : Code) → IsOfRow (is_cell (of_row id key)) id key
+pub row_cell : (id : ℕ) (key : Code) → IsOfRow (is_cell (of_row id key)) id key
 row_cell id key = record { with_id = ids; with_key = keys; rows = λ own k. refl; eaches = λ own store. refl }
   where
     ids : (part : Part) → is_cell (of_row id key) part ≡ true → has_id id part ≡ true
@@ -119,7 +125,7 @@ row_cell id key = record { with_id = ids; with_key = keys; rows = λ own k. refl
     keys other apart (each own store) h = cc
     keys other apart (row own k) h = cc
 
-row_open : (id : ℕ) (key : Code) → IsOfRow (opens_at (of_row id key)) id key
+pub row_open : (id : ℕ) (key : Code) → IsOfRow (opens_at (of_row id key)) id key
 row_open id key = record { with_id = ids; with_key = keys; rows = λ own k. refl; eaches = λ own store. refl }
   where
     ids : (part : Part) → opens_at (of_row id key) part ≡ true → has_id id part ≡ true
@@ -174,3 +180,22 @@ row_shows seen component old home e key kept st mounted is_home shown =
 
     there : (b : Bool) → ((has_rows (top_parts seen.view component.items) e.id && list_any (is_same key) (seen.view.keys e.id e.store)) && b) ≡ b
     there b = λ i. (mounted.mounted i && mounted.there i) && b
+
+-- ---- the rows that are mounted
+
+pub each_keys : (view : View) (component : Component) (e : EachOf) → IsKept component → StandsIn e component.items → keys_mounted (parts_in view component.items) e.id ≡ (if has_rows (top_parts view component.items) e.id then view.keys e.id e.store else [])
+each_keys view component e kept st = at (has_rows (top_parts view component.items) e.id) refl
+  where
+    whole_page : has_each (parts_in view component.items) e.id e.store ≡ has_rows (parts_in view component.items) e.id
+    whole_page = at (view.live 0)
+      where
+        at : (live : Bool) → has_each (if live then items_parts view component.items None else []) e.id e.store ≡ has_rows (if live then items_parts view component.items None else []) e.id
+        at true = one_store view e component.items (subst AreApart (sym kept.numbered.ids) (range_apart 0 (length (ids_in component.items)))) st
+        at false = refl
+
+    page_rows : has_rows (parts_in view component.items) e.id ≡ has_rows (top_parts view component.items) e.id
+    page_rows = top_split view component (repeats e.id) (outer_repeats e.id) kept
+
+    at : (b : Bool) → has_rows (top_parts view component.items) e.id ≡ b → keys_mounted (parts_in view component.items) e.id ≡ (if b then view.keys e.id e.store else [])
+    at true is = (rows_stand view component kept).seen e.id e.store (whole_page ∙ page_rows ∙ is)
+    at false is = (rows_stand view component kept).none e.id (λ store. none_leading (is_each e.id store) (repeats e.id) (repeats_each e.id store) (parts_in view component.items) (page_rows ∙ is))

@@ -45,6 +45,16 @@ impl Slots {
         Ok(Slots { base, slots })
     }
 
+    /// No slots.
+    pub fn none(alloc: Global) -> Slots
+        ensures { result ≡ blank_home 0 0 }
+    {
+        Slots {
+            base: 0,
+            slots: Vec::new(alloc),
+        }
+    }
+
     /// Mounts the page outside of all rows again: what is mounted of it now is what the component shows, as it was
     /// mounted before or anew. Where the top is dead nothing is.
     pub fn remount_top(&mut self, sight: &Sight, near: &mut Near)
