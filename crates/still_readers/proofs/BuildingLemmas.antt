@@ -180,12 +180,6 @@ weight_first e l c a b is at = let f = ap weight is ∙ weight_if c a b in let g
 pub weight_second : (e l c a b : Expr) → e ≡ of.If c a b → l ≡ b → weight l < weight e
 weight_second e l c a b is at = let f = ap weight is ∙ weight_if c a b in let g = ap weight at in omega arith
 
-pub weight_both : (e l r : Expr) (op : Op) → e ≡ of.Binary op l r → weight l + weight r < weight e
-weight_both e l r op is = let f = ap weight is ∙ weight_binary op l r in omega arith
-
-pub weight_three : (e t l r : Expr) → e ≡ of.If t l r → weight t + weight l + weight r < weight e
-weight_three e t l r is = let f = ap weight is ∙ weight_if t l r in omega arith
-
 -- the readers of no node
 pub begun_none : (nodes : List PlanNode) (r : Readers) → r.list ≡ [] → r.spans ≡ [] → r.last ≡ replicate (length nodes) None → length r.last ≡ length nodes → IsBegun nodes 0 r
 begun_none nodes r list spans last long = record {

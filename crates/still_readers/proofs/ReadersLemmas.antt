@@ -11,7 +11,7 @@ use Rattle.sources.specs.Rows.{IsGood}
 use Rattle.still_readers.specs.declared.readers.Reader.{Reader}
 use Rattle.still_readers.specs.declared.readers.Span.{Span}
 use Rattle.still_readers.specs.declared.readers.Readers.{Readers}
-use Rattle.still_readers.specs.Readers.{stands_in, has_recorded, reads_recorded, recorded_by, HasRead, IsLast, StandsFor, IsOwn, IsReader, IsReadersOf, IsEnrolled, IsReflagged, IsEnrolledAt, IsPlaceIn, IsNoneIn, IsReadIn, IsExact}
+use Rattle.still_readers.specs.Readers.{stands_in, has_recorded, recorded_by, HasRead, IsLast, StandsFor, IsOwn, IsReader, IsReadersOf, IsEnrolled, IsReflagged, IsEnrolledAt, IsPlaceIn, IsNoneIn, IsReadIn, IsExact}
 use Rattle.still_readers.proofs.Lists.{within_at, at_within, set_here, one_at, which}
 
 pub row_in : (reads : List Read) (k : ℕ) (x : Read) → slice_get reads k ≡ Some x → Contains (rows_read reads) x.row
@@ -186,11 +186,6 @@ enrolled_there node row r there = let o = there.own in record {
   alone = (λ k u v a b other. sym (one_at u v a b));
   enrolled = (λ nodes is n at d c w. record { place = o.place; reader = there.reader; at = o.at; below = at_within r.list o.place there.reader o.at; of_node = (is.spanned node o.span o.is_span).own o.place there.reader o.from_on o.below o.at; of_row = there.of_row; enrolled = there.enrolled });
 }
-
-pub recorded_is : (o : Option Opened) (row : ℕ) → stands_in row (rows_read (reads_recorded o)) ≡ recorded_by o row
-unfolding stands_in
-recorded_is None row = refl
-recorded_is (Some y) row = refl
 
 -- one flag more says what is recorded
 pub exact_more : (rows : List Opened) (r : Readers) (place : ℕ) (u : Reader) (b : Bool) → slice_get r.list place ≡ Some u → b ≡ has_recorded rows u.node u.row → IsExact rows place r → IsExact rows (place + 1) (record r { list = set r.list place record u { enrolled = b } })

@@ -15,11 +15,6 @@ unfoldable pub stands_in : ℕ → List ℕ → Bool
 stands_in r [] = false
 stands_in r (x ∷ xs) = if x == r then true else stands_in r xs
 
--- the reads that are recorded of a row
-abbrev pub reads_recorded : Option Opened → List Read
-reads_recorded None = []
-reads_recorded (Some y) = y.body.reads.list
-
 abbrev pub recorded_by : Option Opened → ℕ → Bool
 recorded_by None row = false
 recorded_by (Some y) row = stands_in row (rows_read y.body.reads.list)

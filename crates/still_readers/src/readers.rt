@@ -1,11 +1,10 @@
 //! Who reads each row, and who has read it.
-ghost use Rattle.std.specs.Prelude.{◌≡◌, ◌+◌, ◌<◌, ◌≤◌, true, false, ℕ, List, length, slice_get, slice_set, Some, None, IfSome, IfNone};
+ghost use Rattle.std.specs.Prelude.{◌≡◌, ◌<◌, ◌≤◌, true, false, ℕ, List, length, slice_get, slice_set, Some, None, IfSome, IfNone};
 ghost use Rattle.values.specs.declared.plan.PlanNode.{PlanNode as NodeValue};
 ghost use Rattle.sources.specs.Bodies.{rows_read};
 ghost use Rattle.sources.specs.Rows.{IsGood};
-ghost use Rattle.sources.specs.declared.body.Read.{Read as ReadValue};
 ghost use Rattle.still_readers.specs.declared.readers.Reader.{Reader as ReaderValue};
-ghost use Rattle.still_readers.specs.Readers.{stands_in, reads_recorded, IsReadersOf, IsEnrolled, HasRead, IsEnrolledAt, IsReflagged, IsPlaceIn, IsNoneIn, IsOwnReader, IsReadIn, IsExact};
+ghost use Rattle.still_readers.specs.Readers.{stands_in, has_recorded, IsReadersOf, IsEnrolled, HasRead, IsEnrolledAt, IsReflagged, IsPlaceIn, IsNoneIn, IsOwnReader, IsReadIn, IsExact};
 
 use sources::{Opened, Read};
 use values::Sequence;
@@ -53,24 +52,41 @@ impl Readers {
         }
     }
 
-    /// So many of these reads, from the first on, are of the rows of the node's readers in order, and the
-    /// node has read them. It takes one look for each.
-    pub fn count_read(&self, node: u32, reads: &[Read]) -> usize
-        ensures within { result ≤ length reads.now }
-        ensures read { (k : ℕ) (read : ReadValue) → k < result → slice_get reads.now k ≡ Some read → IsReadIn self.now node read.row }
+    /// The same, where the row is likely the one of the node's reader at this place, counted from its
+    /// first one. There it takes one look.
+    pub fn enrol_read(&mut self, node: u32, row: u32, place: usize)
+        ensures at { IsEnrolledAt node row self.old self.new }
+        ensures of_plan { (nodes : List NodeValue) → IsReadersOf nodes self.old → IsReadersOf nodes self.new }
     {
-        match self.own_readers(node) {
-            Some(own) => count_in_order(own, reads),
-            None => 0,
+        if self.has_read_at(node, row, place) {
+            return;
+        }
+        self.enrol(node, row);
+    }
+
+    /// Whether the node's reader at this place, counted from its first one, has read the row.
+    fn has_read_at(&self, node: u32, row: u32, place: usize) -> bool
+        ensures { result ≡ true → IsReadIn self.now node row }
+    {
+        match self.reader_at(node, place) {
+            Some(reader) => has_read(reader, row),
+            None => false,
         }
     }
 
-    /// The readers of a node, in order.
-    fn own_readers(&self, node: u32) -> Option<&[Reader]>
-        ensures { IfSome result (λ own. (k : ℕ) (reader : ReaderValue) → slice_get own.now k ≡ Some reader → IsOwnReader self.now node reader) }
+    /// The node's reader at this place, counted from its first one.
+    fn reader_at(&self, node: u32, place: usize) -> Option<Reader>
+        ensures { IfSome result (λ reader. IsOwnReader self.now node reader) }
     {
         let span = self.spans.at(node as usize)?;
-        self.list.as_slice().get(span.from..span.to)
+        let at = span.from.checked_add(place)?;
+        if at >= span.to {
+            return None;
+        }
+        match self.list.at(at) {
+            Some(reader) => Some(*reader),
+            None => None,
+        }
     }
 
     /// Makes the flags say which rows the bodies record, and nothing else.
@@ -80,21 +96,22 @@ impl Readers {
         ensures of_plan { (nodes : List NodeValue) → IsReadersOf nodes self.old → IsReadersOf nodes self.new }
         ensures enrolled { (nodes : List NodeValue) → IsReadersOf nodes self.old → IsGood nodes rows.now → IsEnrolled nodes rows.now self.new }
     {
-        let mut node = 0;
-        let mut reads = recorded_reads(rows, node);
         for place in 0..self.list.len() {
-            let reader = self.reader(place);
-            reads = next_reads(rows, node, reads, reader.node);
-            node = reader.node;
-            self.flag(place, is_recorded(reads, reader.row));
+            let enrolled = self.records(rows, place);
+            self.flag(place, enrolled);
         }
     }
 
-    fn reader(&self, place: usize) -> Reader
+    /// Whether the body of the reader's node records its row.
+    fn records(&self, rows: &[Opened], place: usize) -> bool
         requires { place < length self.now.list }
-        ensures { slice_get self.now.list place ≡ Some result }
+        ensures { (reader : ReaderValue) → slice_get self.now.list place ≡ Some reader → result ≡ has_recorded rows.now reader.node reader.row }
     {
-        self.list.as_slice()[place]
+        let reader = self.list.as_slice()[place];
+        match rows.get(reader.node as usize) {
+            Some(row) => is_recorded(row.body.reads.as_slice(), reader.row),
+            None => false,
+        }
     }
 
     fn flag(&mut self, place: usize, enrolled: bool)
@@ -141,49 +158,11 @@ impl Readers {
     }
 }
 
-/// The reads that the body of a node records.
-fn recorded_reads(rows: &[Opened], node: u32) -> &[Read]
-    ensures { result.now ≡ reads_recorded (slice_get rows.now node) }
-{
-    match rows.get(node as usize) {
-        Some(row) => row.body.reads.as_slice(),
-        None => &[],
-    }
-}
-
-/// The same, where those of a node are at hand. Readers of one node stand together.
-fn next_reads<'a>(rows: &'a [Opened], at: u32, reads: &'a [Read], node: u32) -> &'a [Read]
-    requires { reads.now ≡ reads_recorded (slice_get rows.now at) }
-    ensures { result.now ≡ reads_recorded (slice_get rows.now node) }
-{
-    if node == at {
-        return reads;
-    }
-    recorded_reads(rows, node)
-}
-
 /// Whether the reader is of this row, and has read it.
 fn has_read(reader: Reader, row: u32) -> bool
     ensures { result ≡ true → (reader.row ≡ row) × (reader.enrolled ≡ true) }
 {
     reader.row == row && reader.enrolled
-}
-
-/// So many of these reads, from the first on, are of the rows of these readers in order, which have
-/// read them.
-fn count_in_order(own: &[Reader], reads: &[Read]) -> usize
-    ensures within { result ≤ length reads.now }
-    ensures short { result ≤ length own.now }
-    ensures read { (k : ℕ) (reader : ReaderValue) (read : ReadValue) → k < result → slice_get own.now k ≡ Some reader →
-        slice_get reads.now k ≡ Some read → (reader.row ≡ read.row) × (reader.enrolled ≡ true) }
-{
-    let most = own.len().min(reads.len());
-    for place in 0..most {
-        if !has_read(own[place], reads[place].row) {
-            return place;
-        }
-    }
-    most
 }
 
 /// Whether a row stands among the reads.

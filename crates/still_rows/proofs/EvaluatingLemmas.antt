@@ -179,11 +179,17 @@ fresh_more rows reads x y fresh here clean packs version code = record { each = 
 pub rows_read-snoc : (reads : List Read) (x : Read) → rows_read (reads ++ x ∷ []) ≡ rows_read reads ++ x.row ∷ []
 rows_read-snoc reads x = map-append (λ (q : Read). q.row) reads (x ∷ [])
 
-pub is_binary : (e l r : Expr) (op : Op) (a b : Expr) → e ≡ of.Binary op a b → l ≡ a → r ≡ b → e ≡ of.Binary op l r
-is_binary e l r op a b is left right = is ∙ (λ i. of.Binary op (sym left i) (sym right i))
+pub room_left : (e l : Expr) (op : Op) (a b : Expr) (n : ℕ) → e ≡ of.Binary op a b → l ≡ a → length (rows_in e) ≤ n → length (rows_in l) ≤ n
+room_left e l op a b n is at h = let f = ap (λ (q : Expr). length (rows_in q)) is ∙ fits_binary op a b in let g = ap (λ (q : Expr). length (rows_in q)) at in omega arith
 
-pub is_if : (e t l r c a b : Expr) → e ≡ of.If c a b → t ≡ c → l ≡ a → r ≡ b → e ≡ of.If t l r
-is_if e t l r c a b is test left right = is ∙ (λ i. of.If (sym test i) (sym left i) (sym right i))
+pub room_right : (e l : Expr) (op : Op) (a b : Expr) (n m : ℕ) → e ≡ of.Binary op a b → l ≡ b → length (rows_in e) ≤ n → n ≤ m + length (rows_in a) → length (rows_in l) ≤ m
+room_right e l op a b n m is at h k = let f = ap (λ (q : Expr). length (rows_in q)) is ∙ fits_binary op a b in let g = ap (λ (q : Expr). length (rows_in q)) at in omega arith
 
-pub fits : (e q : Expr) (n : ℕ) → e ≡ q → length (rows_in e) ≤ n → length (rows_in q) ≤ n
-fits e q n is h = subst (λ (x : Expr). length (rows_in x) ≤ n) is h
+pub room_test : (e l c a b : Expr) (n : ℕ) → e ≡ of.If c a b → l ≡ c → length (rows_in e) ≤ n → length (rows_in l) ≤ n
+room_test e l c a b n is at h = let f = ap (λ (q : Expr). length (rows_in q)) is ∙ fits_if c a b in let g = ap (λ (q : Expr). length (rows_in q)) at in omega arith
+
+pub room_first : (e l c a b : Expr) (n m : ℕ) → e ≡ of.If c a b → l ≡ a → length (rows_in e) ≤ n → n ≤ m + length (rows_in c) → length (rows_in l) ≤ m
+room_first e l c a b n m is at h k = let f = ap (λ (q : Expr). length (rows_in q)) is ∙ fits_if c a b in let g = ap (λ (q : Expr). length (rows_in q)) at in omega arith
+
+pub room_second : (e l c a b : Expr) (n m : ℕ) → e ≡ of.If c a b → l ≡ b → length (rows_in e) ≤ n → n ≤ m + length (rows_in c) → length (rows_in l) ≤ m
+room_second e l c a b n m is at h k = let f = ap (λ (q : Expr). length (rows_in q)) is ∙ fits_if c a b in let g = ap (λ (q : Expr). length (rows_in q)) at in omega arith

@@ -1,6 +1,5 @@
 pub mod Clock
 pub mod Shown
-pub mod Outcomes
 pub mod Frames
 pub mod Moves
 pub mod Since

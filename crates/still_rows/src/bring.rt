@@ -39,7 +39,6 @@ pub struct Gone {
 }
 
 /// How the work on a frame ends for now, where the order of work leads no further without a write.
-#[inline(always)]
 fn end(
     nodes: &[PlanNode],
     rows: &[Opened],

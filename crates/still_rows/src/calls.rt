@@ -30,9 +30,7 @@ pub struct Work {
     pub(crate) marking: Marking,
 }
 
-/// Brings a row up to date where it is not clean. Effects run by other calls. It is compiled into its
-/// callers, so that a clean row takes no call.
-#[inline(always)]
+/// Brings a row up to date where it is not clean. Effects run by other calls.
 pub fn refresh(
     nodes: &[PlanNode],
     rows: &mut [Opened],

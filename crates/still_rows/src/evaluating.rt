@@ -11,11 +11,10 @@ ghost use Rattle.sources.specs.Bodies.{rows_read};
 ghost use Rattle.sources.specs.Colours.{is_clean};
 ghost use Rattle.still_readers.specs.Building.{weight};
 ghost use Rattle.still_rows.specs.Shown.{added, noted, shown, told, ArePacked, IsFresh};
-ghost use Rattle.still_rows.specs.Outcomes.{opened, IsOutcome};
 
 use sources::{Opened, Read, Reads};
 use still_readers::is_recorded;
-use values::{Code, Expr, Op};
+use values::{Code, Expr};
 
 /// The first row that an evaluation reads and that is not clean.
 #[derive(Clone, Copy)]
@@ -23,47 +22,10 @@ pub(crate) struct Missing {
     pub(crate) row: u32,
 }
 
-/// What comes of an evaluation, small enough to be answered in registers: a value, or the row of a
-/// `Missing`.
-#[derive(Clone, Copy)]
-enum Outcome {
-    Empty,
-    Number(i32),
-    Word(u32),
-    Missing(u32),
-}
-
-impl Outcome {
-    #[inline(always)]
-    fn of(reached: Result<Code, Missing>) -> Outcome
-        ensures { opened result ≡ reached }
-    {
-        match reached {
-            Ok(Code::Empty) => Outcome::Empty,
-            Ok(Code::Number(number)) => Outcome::Number(number),
-            Ok(Code::Word(index)) => Outcome::Word(index),
-            Err(missing) => Outcome::Missing(missing.row),
-        }
-    }
-
-    #[inline(always)]
-    fn open(self) -> Result<Code, Missing>
-        ensures { result ≡ opened self }
-    {
-        match self {
-            Outcome::Empty => Ok(Code::Empty),
-            Outcome::Number(number) => Ok(Code::Number(number)),
-            Outcome::Word(index) => Ok(Code::Word(index)),
-            Outcome::Missing(row) => Err(Missing { row }),
-        }
-    }
-}
-
 /// The value, where each row that it takes is clean. `reads` then has these rows behind what it had,
-/// each once. It is compiled into its callers, so that an expression that has no further parts takes no
-/// call.
-#[tactic(auto, using(crate::proofs::EvaluatingLemmas::fits_read, crate::proofs::EvaluatingLemmas::fits_binary, crate::proofs::EvaluatingLemmas::fits_if))]
-#[inline(always)]
+/// each once.
+#[tactic(auto, using(crate::proofs::EvaluatingLemmas::fits_read, crate::proofs::EvaluatingLemmas::fits_binary, crate::proofs::EvaluatingLemmas::fits_if, crate::proofs::EvaluatingLemmas::room_left, crate::proofs::EvaluatingLemmas::room_right, crate::proofs::EvaluatingLemmas::room_test, crate::proofs::EvaluatingLemmas::room_first, crate::proofs::EvaluatingLemmas::room_second))]
+#[cycle(parts)]
 pub(crate) fn evaluate(expr: &Expr, rows: &[Opened], reads: &mut Reads) -> Result<Code, Missing>
     requires room { length (rows_in expr.now) ≤ reads.old.spare }
     requires are_packed { ArePacked rows.now }
@@ -71,20 +33,34 @@ pub(crate) fn evaluate(expr: &Expr, rows: &[Opened], reads: &mut Reads) -> Resul
     ensures fresh { IsFresh rows.now reads.new.list }
     ensures room { room_of reads.new ≡ room_of reads.old }
     ensures spare { reads.old.spare ≤ reads.new.spare + length (rows_in expr.now) }
-    ensures value { IsOutcome expr.now rows.now reads.old.list reads.new.list result }
+    ensures value { (values : ℕ → CodeValue) → Agrees values (shown rows.now) →
+        MatchResult result
+        (λ code. (tried_of expr.now (shown rows.now) values ≡ Done code) × (rows_read reads.new.list ≡ noted (rows_read reads.old.list) (readings_of expr.now values)))
+        (λ missing. tried_of expr.now (shown rows.now) values ≡ Needs missing.row) }
 {
     match expr {
         Expr::Lit(code) => Ok(*code),
         Expr::Read(row) => read_row(rows, *row, reads),
-        Expr::Binary(op, left, right) => both(*op, left.get(), right.get(), rows, reads),
-        Expr::If(test, first, second) => taken(test.get(), first.get(), second.get(), rows, reads),
+        Expr::Binary(op, left, right) => {
+            let left = operand(left.get(), rows, reads)?;
+            let right = operand(right.get(), rows, reads)?;
+            Ok(op.combine(left, right))
+        }
+        Expr::If(test, first, second) => {
+            let test = operand(test.get(), rows, reads)?;
+            if test.truth() {
+                operand(first.get(), rows, reads)
+            } else {
+                operand(second.get(), rows, reads)
+            }
+        }
     }
 }
 
-/// The same of a part of an expression. One with no parts is looked at in place.
-#[tactic(auto, using(crate::proofs::EvaluatingLemmas::fits_read, crate::proofs::EvaluatingLemmas::fits_binary, crate::proofs::EvaluatingLemmas::fits_if))]
+/// The same of a part of an expression. One with no parts is looked at in place, without a further call.
+#[tactic(auto, using(crate::proofs::EvaluatingLemmas::fits_read, crate::proofs::EvaluatingLemmas::fits_binary, crate::proofs::EvaluatingLemmas::fits_if, crate::proofs::EvaluatingLemmas::room_left, crate::proofs::EvaluatingLemmas::room_right, crate::proofs::EvaluatingLemmas::room_test, crate::proofs::EvaluatingLemmas::room_first, crate::proofs::EvaluatingLemmas::room_second))]
 #[cycle(parts)]
-#[inline(always)]
+#[inline]
 fn operand(expr: &Expr, rows: &[Opened], reads: &mut Reads) -> Result<Code, Missing>
     requires room { length (rows_in expr.now) ≤ reads.old.spare }
     requires are_packed { ArePacked rows.now }
@@ -92,96 +68,15 @@ fn operand(expr: &Expr, rows: &[Opened], reads: &mut Reads) -> Result<Code, Miss
     ensures fresh { IsFresh rows.now reads.new.list }
     ensures room { room_of reads.new ≡ room_of reads.old }
     ensures spare { reads.old.spare ≤ reads.new.spare + length (rows_in expr.now) }
-    ensures value { IsOutcome expr.now rows.now reads.old.list reads.new.list result }
+    ensures value { (values : ℕ → CodeValue) → Agrees values (shown rows.now) →
+        MatchResult result
+        (λ code. (tried_of expr.now (shown rows.now) values ≡ Done code) × (rows_read reads.new.list ≡ noted (rows_read reads.old.list) (readings_of expr.now values)))
+        (λ missing. tried_of expr.now (shown rows.now) values ≡ Needs missing.row) }
 {
     match expr {
         Expr::Lit(code) => Ok(*code),
         Expr::Read(row) => read_row(rows, *row, reads),
-        Expr::Binary(op, left, right) => {
-            binary(*op, left.get(), right.get(), rows, reads).open()
-        }
-        Expr::If(test, first, second) => {
-            choice(test.get(), first.get(), second.get(), rows, reads).open()
-        }
-    }
-}
-
-/// The same of an operator on two operands.
-#[cycle(parts)]
-#[inline(never)]
-fn binary(op: Op, left: &Expr, right: &Expr, rows: &[Opened], reads: &mut Reads) -> Outcome
-    requires room { length (rows_in (Expr.Binary op left.now right.now)) ≤ reads.old.spare }
-    requires are_packed { ArePacked rows.now }
-    requires fresh { IsFresh rows.now reads.old.list }
-    ensures fresh { IsFresh rows.now reads.new.list }
-    ensures room { room_of reads.new ≡ room_of reads.old }
-    ensures spare { reads.old.spare ≤ reads.new.spare + length (rows_in (Expr.Binary op left.now right.now)) }
-    ensures value { IsOutcome (Expr.Binary op left.now right.now) rows.now reads.old.list reads.new.list (opened result) }
-{
-    Outcome::of(both(op, left, right, rows, reads))
-}
-
-#[tactic(auto, using(crate::proofs::EvaluatingLemmas::fits_read, crate::proofs::EvaluatingLemmas::fits_binary, crate::proofs::EvaluatingLemmas::fits_if))]
-#[cycle(parts)]
-#[inline(always)]
-fn both(
-    op: Op,
-    left: &Expr,
-    right: &Expr,
-    rows: &[Opened],
-    reads: &mut Reads,
-) -> Result<Code, Missing>
-    requires room { length (rows_in (Expr.Binary op left.now right.now)) ≤ reads.old.spare }
-    requires are_packed { ArePacked rows.now }
-    requires fresh { IsFresh rows.now reads.old.list }
-    ensures fresh { IsFresh rows.now reads.new.list }
-    ensures room { room_of reads.new ≡ room_of reads.old }
-    ensures spare { reads.old.spare ≤ reads.new.spare + length (rows_in (Expr.Binary op left.now right.now)) }
-    ensures value { IsOutcome (Expr.Binary op left.now right.now) rows.now reads.old.list reads.new.list result }
-{
-    let left = operand(left, rows, reads)?;
-    let right = operand(right, rows, reads)?;
-    Ok(op.combine(left, right))
-}
-
-/// The same of a test and two branches.
-#[cycle(parts)]
-#[inline(never)]
-fn choice(test: &Expr, first: &Expr, second: &Expr, rows: &[Opened], reads: &mut Reads) -> Outcome
-    requires room { length (rows_in (Expr.If test.now first.now second.now)) ≤ reads.old.spare }
-    requires are_packed { ArePacked rows.now }
-    requires fresh { IsFresh rows.now reads.old.list }
-    ensures fresh { IsFresh rows.now reads.new.list }
-    ensures room { room_of reads.new ≡ room_of reads.old }
-    ensures spare { reads.old.spare ≤ reads.new.spare + length (rows_in (Expr.If test.now first.now second.now)) }
-    ensures value { IsOutcome (Expr.If test.now first.now second.now) rows.now reads.old.list reads.new.list (opened result) }
-{
-    Outcome::of(taken(test, first, second, rows, reads))
-}
-
-#[tactic(auto, using(crate::proofs::EvaluatingLemmas::fits_read, crate::proofs::EvaluatingLemmas::fits_binary, crate::proofs::EvaluatingLemmas::fits_if))]
-#[cycle(parts)]
-#[inline(always)]
-fn taken(
-    test: &Expr,
-    first: &Expr,
-    second: &Expr,
-    rows: &[Opened],
-    reads: &mut Reads,
-) -> Result<Code, Missing>
-    requires room { length (rows_in (Expr.If test.now first.now second.now)) ≤ reads.old.spare }
-    requires are_packed { ArePacked rows.now }
-    requires fresh { IsFresh rows.now reads.old.list }
-    ensures fresh { IsFresh rows.now reads.new.list }
-    ensures room { room_of reads.new ≡ room_of reads.old }
-    ensures spare { reads.old.spare ≤ reads.new.spare + length (rows_in (Expr.If test.now first.now second.now)) }
-    ensures value { IsOutcome (Expr.If test.now first.now second.now) rows.now reads.old.list reads.new.list result }
-{
-    let test = operand(test, rows, reads)?;
-    if test.truth() {
-        operand(first, rows, reads)
-    } else {
-        operand(second, rows, reads)
+        Expr::Binary(..) | Expr::If(..) => evaluate(expr, rows, reads),
     }
 }
 

@@ -58,7 +58,6 @@ pub(crate) fn read_at(reads: &[Read], at: usize) -> Read
 
 /// How far a run comes over the rows. Where the frame is not of a run nothing is evaluated, and the
 /// answer doesn't count.
-#[inline(always)]
 fn try_run(
     nodes: &[PlanNode],
     rows: &[Opened],
@@ -86,8 +85,7 @@ fn try_run(
     }
 }
 
-/// What is next on a frame. It is compiled into its callers, as `lead` is.
-#[inline(always)]
+/// What is next on a frame.
 pub(crate) fn next_of_frame(
     nodes: &[PlanNode],
     rows: &[Opened],

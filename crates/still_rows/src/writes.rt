@@ -71,14 +71,12 @@ fn changed(rows: &[Opened], recorded: &[Read], at: usize) -> Cause
 }
 
 /// The node has read these rows.
-#[inline]
 fn enrol_all(readers: &mut Readers, node: u32, reads: &[Read])
     ensures { IsEnrolledFor node reads.now (length reads.now) readers.old readers.new }
 {
-    let read_before = readers.count_read(node, reads);
-    for place in read_before..reads.len() {
+    for place in 0..reads.len() {
         let read = read_at(reads, place);
-        readers.enrol(node, read.row);
+        readers.enrol_read(node, read.row, place);
     }
 }
 
@@ -111,8 +109,8 @@ pub fn record_run(
     ensures { (row : OpenedValue) → slice_get rows.old frame.node ≡ Some row →
         IsRunRecorded rows.old rows.new readers.old readers.new frame code version reads.now.list row }
 {
-    enrol_all(readers, frame.node, reads.as_slice());
     let cause = cause_of(rows, row_at(rows, frame.node), frame);
+    enrol_all(readers, frame.node, reads.as_slice());
     put(
         rows,
         frame.node,

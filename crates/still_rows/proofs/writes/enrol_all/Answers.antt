@@ -2,23 +2,15 @@ use Rattle.std.proofs.Common.{subst, arith}
 use Rattle.sources.specs.declared.body.Read.{Read}
 use Rattle.still_readers.specs.Readers.{IsEnrolledAt, HasRead}
 use Rattle.still_readers.proofs.Lists.{either, one_at}
-use Rattle.still_readers.proofs.ReadersLemmas.{enrolled_there}
 use Rattle.still_rows.proofs.writes.enrol_all.Goals as goal
 
-pub loop-place-init : goal.loop-place-init
-loop-place-init c = record {
-  of_plan = (λ nodes h. h);
-  stays = (λ m r h. h);
-  enrolled = (λ nodes h n at d k x l e m w. (enrolled_there c.args.node x.row c.args.readers.now (c.count_read-read_before.ensures.read k x l e)).enrolled nodes h n at d m w);
-}
-
 pub loop-place-preserved : goal.loop-place-preserved
-loop-place-preserved c = let i = c.loop-place.invariant in let e = c.enrol.ensures in record {
+loop-place-preserved c = let i = c.loop-place.invariant in let e = c.enrol_read.ensures in record {
   of_plan = (λ nodes h. e.of_plan nodes (i.of_plan nodes h));
   stays = (λ m r h. e.at.stays m r (i.stays m r h));
-  enrolled = (λ nodes h n at d k x l r m w. either k c.loop-place.place (HasRead c.enrol.new.self c.args.node x.row)
+  enrolled = (λ nodes h n at d k x l r m w. either k c.loop-place.place (HasRead c.enrol_read.new.self c.args.node x.row)
       (λ s.
-      (subst (λ (q : Read). IsEnrolledAt c.args.node q.row c.loop-place.readers c.enrol.new.self) (one_at c.read_at-read.result x c.read_at-read.ensures (rw (← s) r)) e.at).enrolled nodes (i.of_plan nodes h) n at d m w)
+      (subst (λ (q : Read). IsEnrolledAt c.args.node q.row c.loop-place.readers c.enrol_read.new.self) (one_at c.read_at-read.result x c.read_at-read.ensures (rw (← s) r)) e.at).enrolled nodes (i.of_plan nodes h) n at d m w)
       (λ other. e.at.stays c.args.node x.row (i.enrolled nodes h n at d k x (omega (arith, other)) r m w)));
 }
 

@@ -1,28 +1,22 @@
-use Rattle.std.proofs.Common.{◌≡◌, ◌∙◌, ◌+◌, List, slice_get, ap, sym, subst, arith}
+use Rattle.std.proofs.Common.{◌+◌, sym, subst, arith}
 use Rattle.still_readers.specs.declared.readers.Readers.{Readers}
-use Rattle.sources.specs.declared.body.Read.{Read}
-use Rattle.sources.specs.Bodies.{rows_read}
-use Rattle.still_readers.specs.Readers.{stands_in, has_recorded, IsReflagged, IsExact}
+use Rattle.still_readers.specs.Readers.{IsReflagged, IsExact}
 use Rattle.still_readers.proofs.Lists.{within_at}
-use Rattle.still_readers.proofs.ReadersLemmas.{reflagged_same, reflagged_more, reflagged_one, recorded_is, exact_more, exact_enrolled, of_plan_kept}
+use Rattle.still_readers.proofs.ReadersLemmas.{reflagged_same, reflagged_more, reflagged_one, exact_more, exact_enrolled, of_plan_kept}
 use Rattle.still_readers.proofs.readers.Readers.renew.Goals as goal
 
 pub loop-place-init : goal.loop-place-init
-loop-place-init c = record { same = reflagged_same c.args.self.now; exact = record { each = (λ k u l e. absurd (omega arith)) }; reads = c.recorded_reads-reads.ensures }
+loop-place-init c = record { same = reflagged_same c.args.self.now; exact = record { each = (λ k u l e. absurd (omega arith)) } }
 
 pub loop-place-preserved : goal.loop-place-preserved
 loop-place-preserved c =
     let r = c.loop-place.self in
     let i = c.loop-place.invariant in
-    let u = c.reader-reader.result in
-    let at = c.reader-reader.ensures in
-    let enrolled = c.is_recorded.result in
-    let recorded : enrolled ≡ has_recorded c.args.rows.now u.node u.row = c.is_recorded.ensures ∙ ap (λ (l : List Read). stands_in u.row (rows_read l)) c.next_reads-reads.ensures ∙ recorded_is (slice_get c.args.rows.now u.node) u.row in
-    let flagged = c.flag.ensures u at in
+    let u = within_at r.list c.loop-place.place (let a = i.same.long in let b = c.loop-place-test.true in omega arith) in
+    let flagged = c.flag.ensures u.0 u.1 in
     record {
-      same = reflagged_more c.args.self.now r c.flag.new.self i.same (subst (λ (q : Readers). IsReflagged r q) (sym flagged) (reflagged_one r c.loop-place.place u enrolled at));
-      exact = subst (λ (q : Readers). IsExact c.args.rows.now (c.loop-place.place + 1) q) (sym flagged) (exact_more c.args.rows.now r c.loop-place.place u enrolled at recorded i.exact);
-      reads = c.next_reads-reads.ensures;
+      same = reflagged_more c.args.self.now r c.flag.new.self i.same (subst (λ (q : Readers). IsReflagged r q) (sym flagged) (reflagged_one r c.loop-place.place u.0 c.records-enrolled.result u.1));
+      exact = subst (λ (q : Readers). IsExact c.args.rows.now (c.loop-place.place + 1) q) (sym flagged) (exact_more c.args.rows.now r c.loop-place.place u.0 c.records-enrolled.result u.1 (c.records-enrolled.ensures u.0 u.1) i.exact);
     }
 
 pub returns-clause-of_plan : goal.returns-clause-of_plan

@@ -1,10 +1,8 @@
-use Rattle.std.proofs.Common.{◌≡◌, slice_get}
-use Rattle.still_readers.specs.Readers.{reads_recorded, IsReflagged, IsExact}
+use Rattle.still_readers.specs.Readers.{IsReflagged, IsExact}
 use Rattle.still_readers.proofs.readers.Readers.renew.Given as goal
 
 abbrev pub invariant-loop-place : goal.invariant-loop-place
 invariant-loop-place l = record {
   same : IsReflagged l.initial.self l.self;
   exact : IsExact l.rows l.place l.self;
-  reads : l.reads ≡ reads_recorded (slice_get l.rows l.node);
 }
